@@ -6,7 +6,7 @@ use Rattle.kr_base.specs.declared.ids.PromptId.{PromptId}
 use Rattle.prompt_state.specs.Prompts.{changed, first_of_kind, first_of_row, is_prompt, kind_with, next_round, row_at, targeted}
 use Rattle.prompt_state.specs.Targets.{TargetLists, first_of, rest_of}
 use Rattle.prompt_state.specs.declared.row.PromptKind.{PromptKind}
-use Rattle.prompt_state.specs.declared.row.PromptKind.TheVariants.{Unlock, Create}
+use Rattle.prompt_state.specs.declared.row.PromptKind.TheVariants.{Unlock, Create, Change}
 use Rattle.prompt_state.specs.declared.row.PromptRow.{PromptRow}
 use Rattle.prompt_state.specs.declared.row.Prompts.{Prompts}
 use Rattle.prompt_state.specs.declared.targets.Target.{Target}
@@ -54,6 +54,7 @@ row-number prompt prompts row is =
 abbrev left_in : PromptKind → List Target
 left_in (Unlock targets) = targets.left
 left_in (Create label alias salt) = []
+left_in (Change stem salt) = []
 
 -- the same of a prompt, if it is there
 abbrev pub left_in_row : Option PromptRow → List Target
@@ -80,6 +81,7 @@ LeavesRest change = (targets : TargetLists) → (change targets).left ≡ rest_o
 kind-left : (change : TargetLists → TargetLists) → LeavesRest change → (k : PromptKind) → left_in (kind_with change k) ≡ rest_of (left_in k)
 kind-left change rest (Unlock targets) = rest targets
 kind-left change rest (Create label alias salt) = refl
+kind-left change rest (Change stem salt) = refl
 
 left-row : (change : TargetLists → TargetLists) → LeavesRest change → (row : Option PromptRow)
     → left_in_row (option_map (λ (r : PromptRow). record r { kind = kind_with change r.kind }) row) ≡ rest_of (left_in_row row)
@@ -89,6 +91,7 @@ left-row change rest (Some row) = kind-left change rest row.kind
 kind-first : (k : PromptKind) → first_of_kind k ≡ first_of (left_in k)
 kind-first (Unlock targets) = refl
 kind-first (Create label alias salt) = refl
+kind-first (Change stem salt) = refl
 
 first-left : (row : Option PromptRow) → first_of_row row ≡ first_of (left_in_row row)
 first-left None = refl

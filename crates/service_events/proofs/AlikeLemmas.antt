@@ -28,6 +28,7 @@ use Rattle.service_prompts.specs.service_tables.specs.declared.fate.StoreFate.Th
 use Rattle.service_prompts.specs.service_tables.specs.Sent.{One}
 use Rattle.service_prompts.specs.service_tables.specs.Objects.{alias_target, collection_named}
 use Rattle.service_prompts.specs.service_tables.specs.Opened.{contents_of}
+use Rattle.service_prompts.specs.service_tables.specs.Questions.{CollectionQuestions}
 use Rattle.service_prompts.specs.service_tables.specs.Reading.{asked_collections}
 use Rattle.service_prompts.specs.service_tables.specs.State.{State}
 use Rattle.service_prompts.specs.service_tables.specs.Storing.{Brought}
@@ -37,12 +38,13 @@ use Rattle.service_events.specs.AgentCalls.{refuse, unless_refused}
 use Rattle.service_events.specs.AliasCalls.{alias_settled, alias_stored, on_target}
 use Rattle.service_events.specs.AnswerCalls.{answer_prompt, deriving_key, going_on, kind_answered, left_answered, row_answered, target_answered}
 use Rattle.service_events.specs.CollectionCalls.{by_fate, delete_collection, if_open, no_prompt, on_collection}
-use Rattle.service_events.specs.Plan.{Demand, Store, Make, End_prompt, Erase, Set_alias, Plan, Questions, Ends, Asks, Resolves, Opens, answered, refused}
+use Rattle.service_events.specs.Plan.{Demand, Store, Make, Rekey, End_prompt, Erase, Set_alias, Plan, Questions, Ends, Asks, Resolves, Opens, answered, refused}
 use Rattle.service_events.specs.PublicBody as public
 use Rattle.service_events.specs.PublicBody.{PublicBody}
 use Rattle.service_events.specs.Run.{AreFates, AreNone, Ran, asked, by_read, by_reading, by_store, by_test, demanded, failing, fits, is_in_doubt, promised, run, sending, sent_asked, sent_settled, settled}
 use Rattle.service_events.specs.PropertyCalls.{holder_of, on_holder, shown_by, value_of, value_returned}
-use Rattle.service_events.specs.ServiceCalls.{unlocking}
+use Rattle.service_events.specs.KeyringCalls.{the_prompt}
+use Rattle.service_events.specs.ServiceCalls.{unlocking, with_new_prompt}
 use Rattle.service_events.specs.Step.{AreAlike, TakesMoment, TakesSalt, message_of, plan_of, step, value_in, with_delivered}
 use Rattle.service_events.specs.Stored.{StoresNothing}
 use Rattle.service_events.proofs.RunLemmas.{ended-alike, fates-none, no-fates, none-is, quiet-row}
@@ -67,12 +69,21 @@ IsFreeDemand (Store stem edit) = ⊥
 IsFreeDemand (Erase stem) = Unit {0}
 IsFreeDemand (Set_alias alias stem) = Unit {0}
 IsFreeDemand (Make stem label terms) = ⊥
+IsFreeDemand (Rekey stem terms) = ⊥
 
 free-demanded : (one other : Brought) (demand : Demand) → IsFreeDemand demand → (ended : StoreFate) (state : State) → demanded one demand ended state ≡ demanded other demand ended state
 free-demanded one other (Store stem edit) free ended state = absurd free
 free-demanded one other (Erase stem) free ended state = refl
 free-demanded one other (Set_alias alias stem) free ended state = refl
 free-demanded one other (Make stem label terms) free ended state = absurd free
+free-demanded one other (Rekey stem terms) free ended state = absurd free
+
+free-sent : (one other : Brought) (demand : Demand) → IsFreeDemand demand → (ended : StoreFate) (state : State) → sent_asked one demand ended state ≡ sent_asked other demand ended state
+free-sent one other (Store stem edit) free ended state = absurd free
+free-sent one other (Erase stem) free ended state = refl
+free-sent one other (Set_alias alias stem) free ended state = refl
+free-sent one other (Make stem label terms) free ended state = absurd free
+free-sent one other (Rekey stem terms) free ended state = absurd free
 
 -- by the first of the fates
 store-same : (none : Ran) (first second : StoreFate → List Fate → Ran) → ((ended : StoreFate) (rest : List Fate) → first ended rest ≡ second ended rest) → (fates : List Fate)
@@ -124,7 +135,12 @@ module _ (caller : ConnId) where
       let next_by : Brought → StoreFate → List Fate → Ran =
       λ brought ended rest. sending (sent_asked brought demand ended state) (run caller brought (next ended) rest (demanded brought demand ended state)) in
       let same : (ended : StoreFate) (rest : List Fate) → next_by one ended rest ≡ next_by other ended rest =
-      λ ended rest. ap (sending []) (free-run one other (next ended) (free.1 ended) rest (demanded one demand ended state) ∙ ap (run caller other (next ended) rest) (free-demanded one other demand free.0 ended state)) in
+      λ ended rest. (
+      let sent : sent_asked one demand ended state ≡ sent_asked other demand ended state = free-sent one other demand free.0 ended state in
+      let ran : run caller one (next ended) rest (demanded one demand ended state) ≡ run caller other (next ended) rest (demanded other demand ended state) =
+      free-run one other (next ended) (free.1 ended) rest (demanded one demand ended state) ∙ ap (run caller other (next ended) rest) (free-demanded one other demand free.0 ended state) in
+      λ i. sending (sent i) (ran i)
+      ) in
       ap (λ done. by_test (fits (promised caller state (next stored.Stored))) done (failing name.LimitsExceeded state))
       (store-same (failing name.IOError state) (next_by one) (next_by other) same fates)
   free-run one other (Resolves reading unread next) free fates state =
@@ -134,7 +150,7 @@ module _ (caller : ConnId) where
       let next_by : Brought → ReadFate → List Fate → Ran =
       λ brought ended rest. sending (sent_settled reading ended state) (by_reading ended (run caller brought unread rest (after ended)) (run caller brought (next (asked caller brought (after ended))) rest (after ended))) in
       let same : (ended : ReadFate) (rest : List Fate) → next_by one ended rest ≡ next_by other ended rest =
-      λ ended rest. ap (sending []) (reading-same ended _ _ _ _ (free-run one other unread free.0 rest (after ended)) (known (after ended) rest)) in
+      λ ended rest. ap (sending (sent_settled reading ended state)) (reading-same ended _ _ _ _ (free-run one other unread free.0 rest (after ended)) (known (after ended) rest)) in
       λ i. by_test (is_in_doubt reading state) (read-same (failing name.IOError state) (next_by one) (next_by other) same fates i) (known state fates i)
   free-run one other (Opens stem terms next) free fates state = absurd free
 
@@ -193,13 +209,15 @@ module _ (caller : ConnId) where
   left-free prompt round [] = tt
   left-free prompt round (target ∷ left) = (tt, λ one other its. refl, λ one its. answered-free prompt round target.stem (asked caller one its))
 
-  kind-free : (prompt : PromptId) (round : ℕ) (of : PromptKind) → IsFree (kind_answered prompt round of)
-  kind-free prompt round (kind.Unlock targets) = left-free prompt round targets.left
-  kind-free prompt round (kind.Create label alias salt) = tt
+  kind-free : (prompt : PromptId) (round : ℕ) (of : PromptKind) (asks : CollectionQuestions) → IsFree (kind_answered prompt round of asks)
+  kind-free prompt round (kind.Unlock targets) asks = left-free prompt round targets.left
+  kind-free prompt round (kind.Create label alias salt) asks = tt
+  kind-free prompt round (kind.Change stem salt) asks = if-free (asks.is_open stem) (deriving_key prompt round) (going_on prompt) tt tt
 
-  row-free : (prompt : PromptId) (round : ℕ) (row : Option PromptRow) → IsFree (row_answered prompt round row)
-  row-free prompt round None = tt
-  row-free prompt round (Some row) = if-free (nat_eq round last_round) (answered public.Empty (End_prompt prompt true None ∷ [])) (kind_answered prompt round row.kind) tt (kind-free prompt round row.kind)
+  row-free : (prompt : PromptId) (round : ℕ) (row : Option PromptRow) (asks : CollectionQuestions) → IsFree (row_answered prompt round row asks)
+  row-free prompt round None asks = tt
+  row-free prompt round (Some row) asks =
+      if-free (nat_eq round last_round) (answered public.Empty (End_prompt prompt true None ∷ [])) (kind_answered prompt round row.kind asks) tt (kind-free prompt round row.kind asks)
 
   unless-free : (why : Option PromptRefused) (next : Plan) → IsFree next → IsFree (unless_refused why next)
   unless-free None next free = free
@@ -207,7 +225,7 @@ module _ (caller : ConnId) where
 
   answer-free : (prompt : Option PromptId) (round : ℕ) (asks : Questions) → IsFree (answer_prompt prompt round asks)
   answer-free None round asks = if-free asks.prompts.is_agent (refused name.NoSuchObject) (refused name.AccessDenied) tt tt
-  answer-free (Some prompt) round asks = unless-free (asks.prompts.refusal prompt round) (row_answered prompt round (asks.prompts.row prompt)) (row-free prompt round (asks.prompts.row prompt))
+  answer-free (Some prompt) round asks = unless-free (asks.prompts.refusal prompt round) (row_answered prompt round (asks.prompts.row prompt) asks.collections) (row-free prompt round (asks.prompts.row prompt) asks.collections)
 
   answer-same : (prompt : Option PromptId) (round : ℕ) (one other : Brought) (state : State) → answer_prompt prompt round (asked caller one state) ≡ answer_prompt prompt round (asked caller other state)
   answer-same None round one other state = refl
@@ -225,6 +243,12 @@ module _ (caller : ConnId) (state : State) where
   unlock-same : (paths : List (List ℕ)) (targets : List Target) (one other : Brought) → unlocking paths targets (asked caller one state) ≡ unlocking paths targets (asked caller other state)
   unlock-same paths [] one other = refl
   unlock-same paths (target ∷ targets) one other = refl
+
+  change-same : (named : Option (List ℕ)) (salt : List ℕ) (one other : Brought)
+      → on_collection named (λ stem. if_open stem (asked caller one state) (with_new_prompt true the_prompt (kind.Change stem salt) (asked caller one state)))
+      ≡ on_collection named (λ stem. if_open stem (asked caller other state) (with_new_prompt true the_prompt (kind.Change stem salt) (asked caller other state)))
+  change-same None salt one other = refl
+  change-same (Some stem) salt one other = refl
 
   refuse-same : (prompt : Option PromptId) (round : ℕ) (one other : Brought) → refuse prompt round (asked caller one state) ≡ refuse prompt round (asked caller other state)
   refuse-same None round one other = refl
@@ -277,6 +301,10 @@ module _ (caller : ConnId) (state : State) where
   moment-alike (Ok (call.SetAttributes stem item attributes)) fates a b s t same salts = ap (leads caller fates state s (Ok (call.SetAttributes stem item attributes))) (same tt)
   moment-alike (Ok (call.CreateCollection label alias)) fates a b s t same salts =
       quiet-alike (Ok (call.CreateCollection label alias)) tt fates a b s t (ap (λ salt. plan caller state salt (Ok (call.CreateCollection label alias)) a) (salts tt))
+  moment-alike (Ok (call.ChangePassword collection)) fates a b s t same salts =
+      quiet-alike (Ok (call.ChangePassword collection)) tt fates a b s t
+      (ap (λ salt. plan caller state salt (Ok (call.ChangePassword collection)) a) (salts tt) ∙ change-same (collection_named (asked_collections (contents_of state)) collection) t
+      (brings (Ok (call.ChangePassword collection)) a) (brings (Ok (call.ChangePassword collection)) b))
   moment-alike (Ok (call.Unlock objects)) fates a b s t same salts =
       let asks = asked_collections (contents_of state) in
       quiet-alike (Ok (call.Unlock objects)) tt fates a b s t

@@ -23,7 +23,7 @@ use Rattle.service_prompts.specs.service_tables.specs.declared.rows.ConnRows.{Co
 use Rattle.service_prompts.specs.service_tables.specs.Connections.{has}
 use Rattle.service_prompts.specs.service_tables.specs.Opened.{contents_of}
 use Rattle.service_prompts.specs.service_tables.specs.Reading.{asked_collections}
-use Rattle.service_events.specs.Plan.{Change, Open_session, Close_session, Lock_collection, Begin_prompt, Ask_prompt, Derive_key, Count_wrong, Clear_wrong, Go_on, End_prompt, Become_agent, Leave_agent, Demand, Store, Erase, Set_alias, Make, Reading, Aliases_file, Collection_file, KeyTerms, Plan, Ends, Asks, Resolves, Opens}
+use Rattle.service_events.specs.Plan.{Change, Open_session, Close_session, Lock_collection, Begin_prompt, Ask_prompt, Derive_key, Count_wrong, Clear_wrong, Go_on, End_prompt, Become_agent, Leave_agent, Demand, Store, Erase, Set_alias, Make, Rekey, Reading, Aliases_file, Collection_file, KeyTerms, Plan, Ends, Asks, Resolves, Opens}
 use Rattle.service_events.specs.PromptCalls.{gone_on}
 use Rattle.service_events.specs.Run.{key_with, made_of, asked, by_read, by_reading, by_test, demanded, failing, performed, performed_all, promised, sending, sent_all, sent_asked, sent_by, sent_opened, sent_settled, settled, filled, is_in_doubt, Ran, run, unlocked_with}
 use Rattle.service_events.specs.Step.{AreByteFiles}
@@ -36,16 +36,22 @@ use Rattle.service_prompts.specs.service_tables.specs.Sent.{Sent}
 use Rattle.service_prompts.specs.service_tables.specs.Sound.{AreSoundPrompts, CanWait, HasLeft, IsSoundKind, IsTypedText, IsSound}
 use Rattle.service_prompts.specs.service_tables.proofs.CollectionLemmas.{sound-locked}
 use Rattle.service_prompts.proofs.PromptLemmas.{prompts-asked_again, prompts-begun, prompts-ended, prompts-registered, prompts-staged, prompts-wronged, prompts-cleared, prompts-unregistered}
+use Rattle.service_prompts.specs.Announcing.{announced, closing_signals, make_signals}
+use Rattle.service_prompts.proofs.AnnouncingLemmas.{announced-can, make-typed}
 use Rattle.service_prompts.proofs.SignalLemmas.{ask_sent-can, asks_sent-can, completed_sent-can}
 use Rattle.service_prompts.specs.service_tables.proofs.EachLemmas.{each-append}
 use Rattle.service_prompts.specs.service_tables.proofs.KeptLemmas.{sound-resolved, sound-set}
 use Rattle.service_prompts.specs.service_tables.proofs.StoredLemmas.{sound-erased, sound-stored}
+use Rattle.service_events.specs.Announced.{demand_signals, reading_signals, rekey_signals, unlock_signals}
+use Rattle.service_events.proofs.AnnouncedLemmas.{closing-signals-typed, erase-signals-typed, reading-typed, store-signals-typed, unlock-typed}
 use Rattle.service_events.proofs.SmallLemmas.{not-full}
 use Rattle.service_events.proofs.GoneOnLemmas.{go_on-can, prompts-gone_on}
 use Rattle.service_disk.specs.Opening.{row_opened}
+use Rattle.service_disk.specs.Rekeying.{row_rekeyed}
 use Rattle.service_prompts.specs.service_tables.proofs.TypedLemmas.{text-known}
 use Rattle.service_events.proofs.MadeLemmas.{sound-made, sound-reread}
 use Rattle.service_events.proofs.OpenedLemmas.{sound-opened}
+use Rattle.service_events.proofs.RekeyedLemmas.{sound-rekeyed}
 use Rattle.service_events.proofs.StemLemmas.{stems-changed, stems-erased, stems-made, stems-resolved}
 use Rattle.service_events.proofs.RunLemmas.{connections-performed, fits-either, read-either, reading-either, store-either}
 use Rattle.service_prompts.specs.service_tables.proofs.TableLemmas.{sessions-opened, sessions-fewer}
@@ -88,6 +94,7 @@ IsTypedDemand brought (Store stem edit) = (brought.now < 2 ^ 64) × AreEditTypes
 IsTypedDemand brought (Erase stem) = Unit {0}
 IsTypedDemand brought (Set_alias alias stem) = IsAliasName alias × IfSome stem IsStem
 IsTypedDemand brought (Make stem label terms) = (brought.now < 2 ^ 64) × IsTypedText label × IsStem stem
+IsTypedDemand brought (Rekey stem terms) = brought.now < 2 ^ 64
 
 -- Each change of a plan is allowed, and what it asks of the disk, the files that it may open and the values of its answer are of their types, however
 -- what it asks of the disk ends.
@@ -133,6 +140,14 @@ sound-demanded brought (Make stem label terms) some state typed sound = record {
   collections = sound-made stem (made_of brought terms label) typed.0 typed.2 (text-known label typed.1) some state.collections sound.collections;
   aliases = sound.aliases;
   stems = stems-made stem (made_of brought terms label) some state.collections state.used sound.stems;
+}
+sound-demanded brought (Rekey stem terms) some state typed sound = record {
+  connections = sound.connections;
+  sessions = sound.sessions;
+  prompts = sound.prompts;
+  collections = sound-rekeyed (key_with brought terms) brought.now typed stem some state.collections sound.collections;
+  aliases = sound.aliases;
+  stems = stems-changed stem (row_rekeyed (key_with brought terms) brought.now some) state.collections state.used sound.stems;
 }
 
 -- what a file that is read again leaves of it
@@ -236,7 +251,7 @@ sound-all caller (change ∷ changes) state there allowed sound =
 pub waits-sent : (caller : ConnId) (change : Change) (state : State) → has caller state.connections.rows ≡ true → IsAllowed caller change state → IsSound state → AllByRecursion CanWait (sent_by caller change state)
 waits-sent caller Open_session state there allowed sound = tt
 waits-sent caller (Close_session session) state there allowed sound = tt
-waits-sent caller (Lock_collection stem) state there allowed sound = tt
+waits-sent caller (Lock_collection stem) state there allowed sound = announced-can (closing_signals stem state.collections) (closing-signals-typed stem state.collections sound.collections)
 waits-sent caller (Begin_prompt kind) state there allowed sound = tt
 waits-sent caller (Ask_prompt prompt) state there allowed sound =
     ask_sent-can state.connections.rows (asked_again prompt state.prompts) state.collections prompt (sound-performed caller (Ask_prompt prompt) state there allowed sound).prompts sound.collections
@@ -256,6 +271,29 @@ waits-all caller (change ∷ changes) state there allowed sound =
     each-append CanWait (sent_by caller change state) (sent_all caller changes (performed caller change state)) (waits-sent caller change state there allowed.0 sound)
     (waits-all caller changes (performed caller change state) (ap (λ (c : ConnRows). has caller c.rows) (connections-performed caller change state) ∙ there) allowed.1
     (sound-performed caller change state there allowed.0 sound))
+
+-- what is sent once something was asked of the disk
+waits-asked : (brought : Brought) (demand : Demand) (ended : StoreFate) (state : State) → IsTypedDemand brought demand → IsSound state → AllByRecursion CanWait (sent_asked brought demand ended state)
+waits-asked brought (Store stem edit) ended state typed sound =
+    announced-can (demand_signals brought (Store stem edit) ended state.collections) (store-signals-typed brought stem edit ended state.collections typed.0 typed.1 sound.collections)
+waits-asked brought (Erase stem) ended state typed sound =
+    announced-can (demand_signals brought (Erase stem) ended state.collections) (erase-signals-typed stem ended state.collections sound.collections)
+waits-asked brought (Set_alias alias stem) ended state typed sound = tt
+waits-asked brought (Make stem label terms) ended state typed sound = announced-can (make_signals stem ended) (make-typed stem ended typed.2)
+waits-asked brought (Rekey stem terms) ended state typed sound = waits-rekeyed ended
+  where
+    waits-rekeyed : (ended : StoreFate) → AllByRecursion CanWait (announced (rekey_signals stem ended state.collections))
+    waits-rekeyed stored.Stored = tt
+    waits-rekeyed stored.Before = tt
+    waits-rekeyed stored.Unsure = announced-can (closing_signals stem state.collections) (closing-signals-typed stem state.collections sound.collections)
+
+-- or a file was read again, or a collection was to be unlocked
+waits-settled : (reading : Reading) (ended : ReadFate) (state : State) → IsSound state → AllByRecursion CanWait (sent_settled reading ended state)
+waits-settled reading ended state sound = announced-can (reading_signals reading ended state.collections) (reading-typed reading ended state.collections sound.collections)
+
+waits-opened : (brought : Brought) (stem : List ℕ) (terms : KeyTerms) (state : State) → IsSound state → AllByRecursion CanWait (sent_opened brought stem terms state)
+waits-opened brought stem terms state sound =
+    announced-can (unlock_signals (key_with brought terms) stem state.collections) (unlock-typed (key_with brought terms) stem state.collections sound.collections)
 
 -- ---- a run
 
@@ -286,7 +324,7 @@ well-run caller brought (Ends answer changes) fates state there may sound =
 well-run caller brought (Asks demand next) fates state there may sound =
     fits-either IsWell (promised caller state (next stored.Stored)) _ (failing name.LimitsExceeded state)
     (λ is. store-either IsWell (failing name.IOError state) _ fates (failing-well name.IOError state sound)
-    (λ ended rest. sending-well (sent_asked brought demand ended state) (run caller brought (next ended) rest (demanded brought demand ended state)) tt
+    (λ ended rest. sending-well (sent_asked brought demand ended state) (run caller brought (next ended) rest (demanded brought demand ended state)) (waits-asked brought demand ended state may.0 sound)
     (well-run caller brought (next ended) rest (demanded brought demand ended state) there (may.1 ended) (sound-demanded brought demand ended state may.0 sound))))
     (failing-well name.LimitsExceeded state sound)
 well-run caller brought (Resolves reading unread next) fates state there may sound =
@@ -299,7 +337,7 @@ well-run caller brought (Resolves reading unread next) fates state there may sou
     (run caller brought (next (asked caller brought state)) fates state)) =
     elim [
       | true ↦ read-either IsWell (failing name.IOError state) _ fates (failing-well name.IOError state sound)
-          (λ ended rest. sending-well (sent_settled reading ended state) (by_reading ended (ran_unread ended rest) (ran_known ended rest)) tt
+          (λ ended rest. sending-well (sent_settled reading ended state) (by_reading ended (ran_unread ended rest) (ran_known ended rest)) (waits-settled reading ended state sound)
           (reading-either IsWell ended (ran_unread ended rest) (ran_known ended rest)
           (well-run caller brought unread rest (after ended) (here ended) (may.0 ended).0 (its ended))
           (well-run caller brought (next (asked caller brought (after ended))) rest (after ended) (here ended) (may.0 ended).1 (its ended))))
@@ -307,7 +345,7 @@ well-run caller brought (Resolves reading unread next) fates state there may sou
     ] in
     pass (is_in_doubt reading state)
 well-run caller brought (Opens stem terms next) fates state there may sound =
-    sending-well (sent_opened brought stem terms state) (run caller brought next fates (unlocked_with brought stem terms state)) tt
+    sending-well (sent_opened brought stem terms state) (run caller brought next fates (unlocked_with brought stem terms state)) (waits-opened brought stem terms state sound)
     (well-run caller brought next fates (unlocked_with brought stem terms state) there may.1 (sound-unlocked brought stem terms state may.0 sound))
 
 pub some-same : (one other : PromptRow) → Some one ≡ Some other → one ≡ other

@@ -8,7 +8,7 @@ use Rattle.service_prompts.specs.secret_calls.specs.declared.out.Out.{Out}
 use Rattle.service_prompts.specs.secret_calls.specs.Outs.{most_waiting}
 use Rattle.service_prompts.specs.service_tables.specs.Connections.{delivered, sent_to, size_of, size_waiting, with_out}
 use Rattle.service_prompts.specs.service_tables.specs.State.{State}
-use Rattle.service_prompts.specs.service_tables.specs.declared.rows.ConnRow.{ConnRow}
+use Rattle.service_prompts.specs.service_tables.specs.signal_fanout.specs.declared.rows.ConnRow.{ConnRow}
 use Rattle.service_prompts.specs.service_tables.specs.declared.rows.ConnRows.{ConnRows}
 use Rattle.service_prompts.specs.service_tables.specs.Sent.{Sent, is_for}
 use Rattle.service_events.specs.Step.{put_out, served, step}

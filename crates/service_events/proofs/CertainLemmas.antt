@@ -23,6 +23,7 @@ use Rattle.service_disk.specs.declared.opening.Opening.TheVariants as ends
 use Rattle.service_disk.specs.Making as making
 use Rattle.service_disk.specs.Making.{content_of, rows_made}
 use Rattle.service_disk.specs.Opening.{opening_in, row_by, row_opened}
+use Rattle.service_disk.specs.Rekeying.{held_rekeyed, row_rekeyed}
 use Rattle.service_disk.specs.Resolving.{rows_resolved}
 use Rattle.service_disk.proofs.ResolvingLemmas.{found-known}
 use Rattle.service_prompts.specs.service_tables.specs.Sent.{Sent}
@@ -36,7 +37,7 @@ use Rattle.service_prompts.specs.service_tables.proofs.KeptLemmas.{certain-resol
 use Rattle.service_events.specs.declared.event.Event.{Event}
 use Rattle.service_events.specs.declared.event.Event.TheVariants as event
 use Rattle.service_events.specs.Fates.{AreFaultless, IsCertain, IsFaultless}
-use Rattle.service_events.specs.Plan.{Change, Lock_collection, Demand, Store, Erase, Set_alias, Make, Reading, Aliases_file, Collection_file, KeyTerms, Plan, Ends, Asks, Resolves, Opens}
+use Rattle.service_events.specs.Plan.{Change, Lock_collection, Demand, Store, Erase, Set_alias, Make, Rekey, Reading, Aliases_file, Collection_file, KeyTerms, Plan, Ends, Asks, Resolves, Opens}
 use Rattle.service_events.specs.Run.{Ran, asked, by_read, by_reading, by_store, by_test, demanded, failing, filled, is_in_doubt, key_with, made_of, performed, performed_all, promised, run, sending, sent_asked, sent_settled, settled, unlocked_with}
 use Rattle.service_events.specs.Step.{brought_by, put_out, step, with_delivered, brought_derived, terms_of}
 use Rattle.service_events.proofs.RunLemmas.{fits-either, plan_for, reading-either}
@@ -107,6 +108,14 @@ made-known stem its stored_as.Stored rows well known = known-inserted stem (stor
 made-known stem its stored_as.Before rows well known = known
 made-known stem its stored_as.Unsure rows well known = absurd (well tt)
 
+-- a file that was stored under another key is known
+rekeyed-known : (key : Inputs) (now : ℕ) (some : StoreFate) → (IsFault (fate.Store some) → ⊥) → (row : CollectionRow) → IsKnownRow row → IsKnownRow (row_rekeyed key now some row)
+rekeyed-known key now some well row known =
+    let its : (held : Held) (ended : StoreFate) → (IsFault (fate.Store ended) → ⊥) → IsKnownRow (held_rekeyed key now ended row held) =
+    λ held. elim [ stored_as.Stored ↦ λ clean. (tt, tt) | stored_as.Before ↦ λ clean. known | stored_as.Unsure ↦ λ clean. absurd (clean tt) ] in
+    let pass : (o : Option Held) → IsKnownRow (option_map_or (held_rekeyed key now some row) o row) = elim [ None ↦ known | Some held ↦ its held some well ] in
+    pass row.held
+
 -- an attempt to unlock leaves the file as it is
 opened-known : (key : Inputs) (how : Opening) (row : CollectionRow) → IsKnownRow row → IsKnownRow (row_by key how row)
 opened-known key ends.Settled row known = known
@@ -143,6 +152,12 @@ demanded-certain brought (Set_alias alias stem) some state well certain =
     record { collections = certain.collections; aliases = certain-set alias stem some (contents_of state) well certain.aliases }
 demanded-certain brought (Make stem label terms) some state well certain =
     record { collections = made-known stem (made_of brought terms label) some state.collections well certain.collections; aliases = certain.aliases }
+demanded-certain brought (Rekey stem terms) some state well certain =
+    let key = key_with brought terms in
+    record {
+      collections = known-changed stem (row_rekeyed key brought.now some) state.collections (λ row is. rekeyed-known key brought.now some well row is) certain.collections;
+      aliases = certain.aliases;
+    }
 
 settled-certain : (reading : Reading) (some : ReadFate) (state : State) → IsCertain state → IsCertain (settled reading some state)
 settled-certain Aliases_file some state certain = record { collections = certain.collections; aliases = certain-resolved some state.aliases certain.aliases }

@@ -27,8 +27,8 @@ use Rattle.service_prompts.specs.service_tables.specs.declared.fate.StoreFate.{S
 use Rattle.service_prompts.specs.service_tables.specs.declared.fate.StoreFate.TheVariants as stored
 use Rattle.service_prompts.specs.service_tables.proofs.AliasLemmas.{is-alias}
 use Rattle.service_events.specs.AliasCalls.{alias_settled}
-use Rattle.service_events.specs.Derivation.{alias_given, can_make, collection_made, completing, derived, dismissing, kind_derived, left_derived, making_ended, most_wrong_answers, opening_ended, quietly, row_derived, wrong_again}
-use Rattle.service_events.specs.Plan.{Change, KeyTerms, Plan, Ends, Asks, Resolves, Opens, Ask_prompt, Clear_wrong, Count_wrong, Go_on, Make, followed}
+use Rattle.service_events.specs.Derivation.{alias_given, are_terms, can_make, changing_ended, collection_made, completing, derived, dismissing, kind_derived, left_derived, making_ended, most_wrong_answers, opening_ended, password_changed, quietly, row_derived, wrong_again}
+use Rattle.service_events.specs.Plan.{Change, KeyTerms, Plan, Ends, Asks, Resolves, Opens, Ask_prompt, Clear_wrong, Count_wrong, Go_on, Make, Rekey, followed}
 use Rattle.service_events.specs.Run.{asked, demanded, key_with, performed, settled, unlocked_with}
 use Rattle.service_events.specs.Step.{AreByteFiles}
 use Rattle.service_events.proofs.AdvanceLemmas.{KeepsPrompt, row-changed}
@@ -142,12 +142,27 @@ module _ (caller : ConnId) (brought : Brought) (prompt : PromptId) (small : brou
       elim [ true ↦ asks-made label alias stem terms state text typed (IsStem-chosen label state.used) | false ↦ ((tt, tt), tt) ] in
       pass (can_make label salt terms (asked caller brought state))
 
-  -- ---- either
+  -- ---- a password that is changed
+
+  changed-may : (stem : List ℕ) (some : StoreFate) (state : State) → IsStem stem → MayRun caller brought (changing_ended prompt stem some) state
+  changed-may stem stored.Stored state is = ((is, tt), tt)
+  changed-may stem stored.Before state is = ((tt, tt), tt)
+  changed-may stem stored.Unsure state is = ((tt, tt), tt)
+
+  change-may : (stem salt : List ℕ) (terms : KeyTerms) (state : State) → IsStem stem → MayRun caller brought (password_changed prompt stem salt terms (asked caller brought state)) state
+  change-may stem salt terms state is =
+      let asks : MayRun caller brought (Asks (Rekey stem terms) (changing_ended prompt stem)) state = (small, λ ended. changed-may stem ended (demanded brought (Rekey stem terms) ended state) is) in
+      let pass : (fit can : Bool) → MayRun caller brought (cond fit (cond can (Asks (Rekey stem terms) (changing_ended prompt stem)) (dismissing prompt)) (dismissing prompt)) state =
+      elim [ true ↦ elim [ true ↦ asks | false ↦ ((tt, tt), tt) ] | false ↦ λ can. ((tt, tt), tt) ] in
+      pass (are_terms salt terms) ((asked caller brought state).files.can_rekey terms stem)
+
+  -- ---- any
 
   kind-may : (wrong : ℕ) (k : PromptKind) (terms : KeyTerms) (state : State) → AreByteFiles state.collections → IsSoundKind k → IsAllowed caller (Ask_prompt prompt) state
       → MayRun caller brought (kind_derived prompt wrong k terms (asked caller brought state)) state
   kind-may wrong (kind.Unlock targets) terms state files is ask = left-may wrong targets.left terms state files ask
   kind-may wrong (kind.Create label alias salt) terms state files is ask = made-may label alias salt terms state is.label is.alias
+  kind-may wrong (kind.Change stem salt) terms state files is ask = change-may stem salt terms state is.stem
 
   row-may : (round : ℕ) (row : PromptRow) (terms : KeyTerms) (state : State) → IsSound state → AreByteFiles state.collections → row_at prompt state.prompts ≡ Some row
       → is_deriving_in round row.stage ≡ true → MayRun caller brought (kind_derived prompt row.wrong row.kind terms (asked caller brought state)) state

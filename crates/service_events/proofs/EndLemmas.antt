@@ -1,6 +1,7 @@
--- How each row of the table of calls ends, and that of a derived key, whatever it is told: by changes that send nothing and leave the agent, or by an empty return
--- with changes of which the last one alone may do either. So what is true of such ends and of the steps before them is true of all rows, without a word on each call.
-use Rattle.std.proofs.Common.{◌≡◌, ◌⊎◌, inl, inr, ⊎_elim, ℕ, ◌+◌, Bool, true, false, IsTrue, cond, nat_eq, nat_le, List, [], ◌∷◌, ◌++◌, length, map, Option, Some, None, Result, Ok, Err, refl, sym, ap, subst, ◌∙◌, append-nil}
+-- How each row of the table of calls ends, and that of a derived key, whatever it is told: by changes that send signals to everyone at most and leave the agent, or by
+-- an empty return with changes of which the last one alone may send anything else or change the agent. So what is true of such ends and of the steps before them is
+-- true of all rows, without a word on each call.
+use Rattle.std.proofs.Common.{◌≡◌, ◌⊎◌, inl, inr, ⊎_elim, ℕ, ◌+◌, Bool, true, false, IsTrue, cond, nat_eq, nat_le, List, [], ◌∷◌, ◌++◌, length, map, Option, Some, None, Result, Ok, Err, refl, sym, subst, append-nil}
 use Rattle.std.specs.List.{AllByRecursion, filter_map}
 use Rattle.std.specs.Option.{option_and_then}
 use Rattle.kr_base.specs.declared.ids.ConnId.{ConnId}
@@ -23,6 +24,7 @@ use Rattle.service_disk.specs.declared.opening.Opening.TheVariants as ends
 use Rattle.service_prompts.specs.Unlocking.{targets_of, unlocked_there}
 use Rattle.service_prompts.specs.service_tables.specs.Limits.{most_content}
 use Rattle.service_prompts.specs.service_tables.specs.Objects.{alias_target, collection_around, collection_named}
+use Rattle.service_prompts.specs.service_tables.specs.Questions.{CollectionQuestions}
 use Rattle.service_prompts.specs.service_tables.specs.Targets.{are_light}
 use Rattle.service_prompts.specs.service_tables.specs.State.{State}
 use Rattle.service_prompts.specs.service_tables.specs.Storing.{Brought, Edit, Remove_item, Set_attributes, Set_label, Set_name, Set_secret}
@@ -36,8 +38,9 @@ use Rattle.service_events.specs.AgentCalls.{in_round, unless_refused}
 use Rattle.service_events.specs.AliasCalls.{alias_settled, on_target}
 use Rattle.service_events.specs.AnswerCalls.{deriving_key, going_on, kind_answered, left_answered, row_answered}
 use Rattle.service_events.specs.CollectionCalls.{by_fate, made, no_prompt, on_collection, secret_stored, storing}
-use Rattle.service_events.specs.Derivation.{alias_given, can_make, derived, dismissing, kind_derived, left_derived, making_ended, most_wrong_answers, opening_ended, quietly, row_derived}
+use Rattle.service_events.specs.Derivation.{alias_given, are_terms, can_make, changing_ended, derived, dismissing, kind_derived, left_derived, making_ended, most_wrong_answers, opening_ended, quietly, row_derived}
 use Rattle.service_events.specs.ItemCalls.{secret_if_open}
+use Rattle.service_events.specs.KeyringCalls.{the_prompt}
 use Rattle.service_events.specs.Plan.{Answer, Returns, Gives, Refuses, Demand, KeyTerms, Questions, Reading, Aliases_file, Collection_file, Change, Open_session, Close_session, Lock_collection, Begin_prompt, Ask_prompt, Derive_key, Count_wrong, Clear_wrong, Go_on, End_prompt, Become_agent, Leave_agent, Plan, Ends, Asks, Resolves, Opens, answered, followed, refused}
 use Rattle.service_events.specs.PromptCalls.{is_made_row}
 use Rattle.service_events.specs.PublicBody.{PublicBody}
@@ -47,9 +50,11 @@ use Rattle.service_prompts.specs.collection_store.specs.declared.change.Changed.
 use Rattle.service_prompts.specs.secret_calls.specs.declared.property.PropertyValue.{PropertyValue}
 use Rattle.service_events.specs.declared.holder.Holder.{Holder}
 use Rattle.service_events.specs.PropertyCalls.{editing, editing_item, holder_of, on_holder, value_of, value_returned}
-use Rattle.service_events.specs.ServiceCalls.{creating, is_plain, no_collection, there_already, unlocking, with_new_prompt}
+use Rattle.service_events.specs.ServiceCalls.{creating, in_order, is_plain, no_collection, there_already, unlocking, with_new_prompt}
 use Rattle.service_events.specs.SessionCalls.{with_session}
 use Rattle.service_events.specs.Step.{plan_of}
+use Rattle.service_prompts.specs.service_tables.proofs.EachLemmas.{each-append}
+use Rattle.service_events.proofs.AnnouncedLemmas.{AreAnnounced, IsAnnounced, closing-announced}
 use Rattle.service_events.proofs.RunLemmas.{fits-either, read-either, reading-either, store-either}
 
 -- ---- ends
@@ -114,9 +119,9 @@ pub prompts-settled : (reading : Reading) (ended : ReadFate) (state : State) →
 prompts-settled Aliases_file ended state = refl
 prompts-settled (Collection_file stem) ended state = refl
 
--- ---- changes of which the last one alone may send something
+-- ---- changes of which the last one alone may send something to one connection
 
--- the change sends nothing, and leaves the agent
+-- what the change sends goes to everyone, and it leaves the agent
 abbrev pub IsQuiet : Change → Type 0
 IsQuiet Open_session = Unit {0}
 IsQuiet (Close_session session) = Unit {0}
@@ -134,25 +139,25 @@ IsQuiet Leave_agent = ⊥
 abbrev pub AreQuiet : List Change → Type 0
 AreQuiet changes = AllByRecursion IsQuiet changes
 
-quiet-one : (caller : ConnId) (change : Change) (state : State) → IsQuiet change → sent_by caller change state ≡ []
-quiet-one caller Open_session state quiet = refl
-quiet-one caller (Close_session session) state quiet = refl
-quiet-one caller (Lock_collection stem) state quiet = refl
-quiet-one caller (Begin_prompt kind) state quiet = refl
+quiet-one : (caller : ConnId) (change : Change) (state : State) → IsQuiet change → AreAnnounced (sent_by caller change state)
+quiet-one caller Open_session state quiet = tt
+quiet-one caller (Close_session session) state quiet = tt
+quiet-one caller (Lock_collection stem) state quiet = closing-announced stem state.collections
+quiet-one caller (Begin_prompt kind) state quiet = tt
 quiet-one caller (Ask_prompt prompt) state quiet = absurd quiet
-quiet-one caller (Derive_key prompt round) state quiet = refl
-quiet-one caller (Count_wrong prompt) state quiet = refl
-quiet-one caller (Clear_wrong prompt) state quiet = refl
+quiet-one caller (Derive_key prompt round) state quiet = tt
+quiet-one caller (Count_wrong prompt) state quiet = tt
+quiet-one caller (Clear_wrong prompt) state quiet = tt
 quiet-one caller (Go_on prompt) state quiet = absurd quiet
 quiet-one caller (End_prompt prompt dismissed created) state quiet = absurd quiet
 quiet-one caller Become_agent state quiet = absurd quiet
 quiet-one caller Leave_agent state quiet = absurd quiet
 
-pub quiet-all : (caller : ConnId) (changes : List Change) (state : State) → AreQuiet changes → sent_all caller changes state ≡ []
-quiet-all caller [] state quiet = refl
+pub quiet-all : (caller : ConnId) (changes : List Change) (state : State) → AreQuiet changes → AreAnnounced (sent_all caller changes state)
+quiet-all caller [] state quiet = tt
 quiet-all caller (change ∷ changes) state quiet =
     let next = performed caller change state in
-    ap (λ sends. sends ++ sent_all caller changes next) (quiet-one caller change state quiet.0) ∙ quiet-all caller changes next quiet.1
+    each-append IsAnnounced (sent_by caller change state) (sent_all caller changes next) (quiet-one caller change state quiet.0) (quiet-all caller changes next quiet.1)
 
 -- one change, of this kind
 abbrev pub IsLone : (Change → Type 0) → List Change → Type 0
@@ -168,7 +173,7 @@ AreInTurn L (change ∷ next ∷ more) = IsQuiet change × AreInTurn L (next ∷
 
 -- what the last change does, and quiet ones keep
 pub in-turn : (caller : ConnId) (L : Change → Type 0) (R : State → List Sent → State → Type 0)
-    → ((change : Change) (state : State) (sent : List Sent) (new : State) → IsQuiet change → R (performed caller change state) sent new → R state sent new)
+    → ((change : Change) (state : State) (said sent : List Sent) (new : State) → IsQuiet change → AreAnnounced said → R (performed caller change state) sent new → R state (said ++ sent) new)
     → ((change : Change) (state : State) → L change → R state (sent_by caller change state) (performed caller change state))
     → (changes : List Change) (state : State) → AreInTurn L changes → R state (sent_all caller changes state) (performed_all caller changes state)
 in-turn caller L R quiet last [] state are = absurd are
@@ -177,7 +182,7 @@ in-turn caller L R quiet last (change ∷ other ∷ more) state are =
     let next = performed caller change state in
     let sent = sent_all caller (other ∷ more) next in
     let new = performed_all caller (other ∷ more) next in
-    subst (λ first. R state (first ++ sent) new) (sym (quiet-one caller change state are.0)) (quiet change state sent new are.0 (in-turn caller L R quiet last (other ∷ more) next are.1))
+    quiet change state (sent_by caller change state) sent new are.0 (quiet-one caller change state are.0) (in-turn caller L R quiet last (other ∷ more) next are.1)
 
 -- ---- ends of rows
 
@@ -306,6 +311,10 @@ module _ (may : Bool) where
   call-unlocking paths [] questions = (tt, inl tt)
   call-unlocking paths (target ∷ targets) questions = call-new (are_light (target ∷ targets)) (public.ObjectsAndPrompt paths) _ questions
 
+  call-collection : (named : Option (List ℕ)) (next : List ℕ → Plan) → ((stem : List ℕ) → OfCall (next stem)) → OfCall (on_collection named next)
+  call-collection None next is = (tt, inl tt)
+  call-collection (Some stem) next is = is stem
+
   call-there : (there : Option (List ℕ)) (next : Plan) → OfCall next → OfCall (there_already there next)
   call-there None next is = is
   call-there (Some stem) next is = (tt, inl tt)
@@ -330,13 +339,15 @@ module _ (may : Bool) where
         (call-if (questions.collections.is_open target.stem) (going_on prompt) (deriving_key prompt round) (tt, inr (refl, tt)) (tt, inl (tt, tt))) (tt, inr (refl, tt)),
   )
 
-  call-kind : (prompt : PromptId) (round : ℕ) (what : PromptKind) → OfCall (kind_answered prompt round what)
-  call-kind prompt round (kind.Unlock targets) = call-left prompt round targets.left
-  call-kind prompt round (kind.Create label alias salt) = (tt, inl (tt, tt))
+  call-kind : (prompt : PromptId) (round : ℕ) (what : PromptKind) (asked_of : CollectionQuestions) → OfCall (kind_answered prompt round what asked_of)
+  call-kind prompt round (kind.Unlock targets) asked_of = call-left prompt round targets.left
+  call-kind prompt round (kind.Create label alias salt) asked_of = (tt, inl (tt, tt))
+  call-kind prompt round (kind.Change stem salt) asked_of =
+      call-if (asked_of.is_open stem) (deriving_key prompt round) (going_on prompt) (tt, inl (tt, tt)) (tt, inr (refl, tt))
 
-  call-row : (prompt : PromptId) (round : ℕ) (row : Option PromptRow) → OfCall (row_answered prompt round row)
-  call-row prompt round None = (tt, inl tt)
-  call-row prompt round (Some row) = call-if (nat_eq round last_round) (dismissing prompt) _ (tt, inr (refl, refl)) (call-kind prompt round row.kind)
+  call-row : (prompt : PromptId) (round : ℕ) (row : Option PromptRow) (asked_of : CollectionQuestions) → OfCall (row_answered prompt round row asked_of)
+  call-row prompt round None asked_of = (tt, inl tt)
+  call-row prompt round (Some row) asked_of = call-if (nat_eq round last_round) (dismissing prompt) _ (tt, inr (refl, refl)) (call-kind prompt round row.kind asked_of)
 
   -- a call isn't GetSecret or GetSecrets, unless secrets may be given
   abbrev pub GivesNone : Result Call CallFault → Type 0
@@ -354,7 +365,7 @@ module _ (may : Bool) where
   call-ends salt (Ok (call.SetAlias alias object)) questions none =
       idle-call (plan_of salt (Ok (call.SetAlias alias object)) questions) (idle-target (alias_target questions.collections object) (alias_settled alias) (idle-alias alias))
   call-ends salt (Ok (call.Unlock objects)) questions none = call-unlocking (unlocked_there questions.collections objects) (targets_of questions.collections objects) questions
-  call-ends salt (Ok (call.Lock objects)) questions none = (tt, inl (quiet-locks (filter_map (collection_around questions.collections) objects)))
+  call-ends salt (Ok (call.Lock objects)) questions none = (tt, inl (quiet-locks (in_order (filter_map (collection_around questions.collections) objects))))
   call-ends salt (Ok (call.GetSecrets items session)) questions none = call-session session questions _ (λ own. (none, inl tt))
   call-ends salt (Ok (call.SearchCollection collection wanted)) questions none =
       idle-call (plan_of salt (Ok (call.SearchCollection collection wanted)) questions) (idle-collection (collection_named questions.collections collection) _ (λ stem. (tt, refl)))
@@ -364,6 +375,9 @@ module _ (may : Bool) where
   call-ends salt (Ok (call.DeleteCollection collection)) questions none =
       idle-call (plan_of salt (Ok (call.DeleteCollection collection)) questions)
       (idle-collection (collection_named questions.collections collection) _ (λ stem. idle-if (questions.collections.is_open stem) _ name.IsLocked (fate-idle no_prompt)))
+  call-ends salt (Ok (call.ChangePassword collection)) questions none =
+      call-collection (collection_named questions.collections collection) _
+      (λ stem. call-if (questions.collections.is_open stem) _ (refused name.IsLocked) (call-new true the_prompt _ questions) (tt, inl tt))
   call-ends salt (Ok (call.DeleteItem stem item)) questions none =
       idle-call (plan_of salt (Ok (call.DeleteItem stem item)) questions)
       (idle-if (questions.collections.has_item stem item) _ name.NoSuchObject
@@ -391,8 +405,9 @@ module _ (may : Bool) where
   call-ends salt (Ok (call.Dismiss prompt)) questions none = call-if (questions.prompts.owns prompt) _ (refused name.NoSuchObject) (tt, inr (refl, refl)) (tt, inl tt)
   call-ends salt (Ok call.Register) questions none = call-if questions.prompts.is_taken (refused name.AgentTaken) _ (tt, inl tt) (tt, inr (refl, tt))
   call-ends salt (Ok call.Unregister) questions none = call-if questions.prompts.is_agent _ (refused name.AccessDenied) (tt, inr (refl, tt)) (tt, inl tt)
-  call-ends salt (Ok (call.Answer prompt round password)) questions none = call-round prompt round questions _ (λ it. call-row it round (questions.prompts.row it))
+  call-ends salt (Ok (call.Answer prompt round password)) questions none = call-round prompt round questions _ (λ it. call-row it round (questions.prompts.row it) questions.collections)
   call-ends salt (Ok (call.Refuse prompt round)) questions none = call-round prompt round questions _ (λ it. (tt, inr (refl, refl)))
+  call-ends salt (Err fault) questions none = (tt, inl tt)
   call-ends salt _ questions none = (tt, inl tt)
 
 -- whatever a call is
@@ -437,6 +452,11 @@ making-key prompt alias stem stored.Stored = given-key prompt alias stem
 making-key prompt alias stem stored.Before = (tt, inr (refl, tt))
 making-key prompt alias stem stored.Unsure = (tt, inr (refl, tt))
 
+changing-key : (prompt : PromptId) (stem : List ℕ) (ended : StoreFate) → OfKey (changing_ended prompt stem ended)
+changing-key prompt stem stored.Stored = (tt, inr (refl, tt))
+changing-key prompt stem stored.Before = (tt, inr (refl, tt))
+changing-key prompt stem stored.Unsure = (tt, inr (refl, tt))
+
 kind-key : (prompt : PromptId) (wrong : ℕ) (what : PromptKind) (terms : KeyTerms) (questions : Questions) → OfKey (kind_derived prompt wrong what terms questions)
 kind-key prompt wrong (kind.Unlock targets) terms questions =
     let pass : (left : List Target) → OfKey (left_derived prompt wrong left terms questions) =
@@ -444,6 +464,9 @@ kind-key prompt wrong (kind.Unlock targets) terms questions =
     pass targets.left
 kind-key prompt wrong (kind.Create label alias salt) terms questions =
     key-if (can_make label salt terms questions) _ (dismissing prompt) (making-key prompt alias (questions.files.stem_for label)) (tt, inr (refl, tt))
+kind-key prompt wrong (kind.Change stem salt) terms questions =
+    key-if (are_terms salt terms) _ (dismissing prompt)
+    (key-if (questions.files.can_rekey terms stem) _ (dismissing prompt) (changing-key prompt stem) (tt, inr (refl, tt))) (tt, inr (refl, tt))
 
 pub key-ends : (prompt : PromptId) (round : ℕ) (terms : KeyTerms) (questions : Questions) → AllEnds (IsEnd true (AreInTurn IsOfKey)) (derived prompt round terms questions)
 key-ends prompt round terms questions =

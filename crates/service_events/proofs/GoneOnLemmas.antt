@@ -8,7 +8,7 @@ use Rattle.kr_base.specs.declared.ids.PromptId.{PromptId}
 use Rattle.prompt_state.specs.Prompts.{asked_again, ended, is_prompt, last_round, next_round, round_of, row_at}
 use Rattle.prompt_state.specs.Targets.{first_of}
 use Rattle.prompt_state.specs.declared.row.PromptKind.{PromptKind}
-use Rattle.prompt_state.specs.declared.row.PromptKind.TheVariants.{Unlock, Create}
+use Rattle.prompt_state.specs.declared.row.PromptKind.TheVariants.{Unlock, Create, Change}
 use Rattle.prompt_state.specs.declared.row.PromptRow.{PromptRow}
 use Rattle.prompt_state.specs.declared.row.Prompts.{Prompts}
 use Rattle.prompt_state.specs.declared.targets.Target.{Target}
@@ -19,11 +19,11 @@ use Rattle.service_prompts.specs.service_tables.specs.Reading.{asked_collections
 use Rattle.service_prompts.specs.service_tables.specs.Sound.{AreSoundPrompts, AreSoundTargets, CanWait, HasLeft, IsSound, IsSoundKind, IsSoundPrompt, IsSoundTarget}
 use Rattle.service_prompts.specs.service_tables.specs.State.{State}
 use Rattle.service_prompts.specs.service_tables.specs.Targets.{weight, weight_of}
-use Rattle.service_prompts.specs.service_tables.specs.declared.rows.ConnRow.{ConnRow}
+use Rattle.service_prompts.specs.service_tables.specs.signal_fanout.specs.declared.rows.ConnRow.{ConnRow}
 use Rattle.service_prompts.specs.service_tables.proofs.EachLemmas.{each-append}
 use Rattle.service_prompts.proofs.PromptLemmas.{prompts-asked_again, prompts-changed, prompts-ended}
 use Rattle.service_prompts.proofs.SignalLemmas.{ask-can, completed-can, found-row}
-use Rattle.service_events.specs.PromptCalls.{are_none, asks_for, completes, go_on_sent, gone_on, is_over, is_over_row, passed, passed_kind, passed_over, passed_row}
+use Rattle.service_events.specs.PromptCalls.{are_none, asks_for, completes, go_on_sent, gone_on, is_given_up, is_over, is_over_row, passed, passed_kind, passed_over, passed_row}
 use Rattle.service_events.proofs.AdvanceLemmas.{row-changed}
 
 -- ---- targets that are passed over
@@ -47,14 +47,16 @@ module _ (asked : CollectionQuestions) where
   kind-passed : (kind : PromptKind) → IsSoundKind kind → IsSoundKind (passed_kind asked kind)
   kind-passed (Unlock targets) is = passed-sound targets.done targets.left is.done is.left is.light
   kind-passed (Create label alias salt) is = is
+  kind-passed (Change stem salt) is = is
 
 some-left : (left : List Target) → are_none left ≡ false → IsSome (first_of left)
 some-left [] over = absurd (let no : true ≡ false = over in cc)
 some-left (target ∷ left) over = refl
 
-has-left : (kind : PromptKind) → is_over kind ≡ false → HasLeft kind
-has-left (Unlock targets) over = some-left targets.left over
-has-left (Create label alias salt) over = tt
+has-left : (asked : CollectionQuestions) (kind : PromptKind) → is_over asked kind ≡ false → HasLeft kind
+has-left asked (Unlock targets) over = some-left targets.left over
+has-left asked (Create label alias salt) over = tt
+has-left asked (Change stem salt) over = tt
 
 -- ---- the prompts
 
@@ -95,26 +97,26 @@ module _ (conns : List ConnRow) (prompt : PromptId) (asked : CollectionQuestions
   ended-passed = ap (λ (rows : List PromptRow). record prompts { rows = rows }) (filter-changed prompt (passed_row asked) (λ row. refl) prompts.rows)
 
   -- if something is left to be asked for
-  prompts-passed : is_over_row (row_at prompt over) ≡ false → AreSoundPrompts conns prompts → AreSoundPrompts conns over
+  prompts-passed : is_over_row asked (row_at prompt over) ≡ false → AreSoundPrompts conns prompts → AreSoundPrompts conns over
   prompts-passed more sound =
       prompts-changed prompt (passed_row asked) (record { number = λ row. refl; owner = λ row. refl; stage = λ row is. is }) conns prompts
       (λ row found was. record {
         number = was.number;
         wrong = was.wrong;
         kind = kind-passed asked row.kind was.kind;
-        left = λ made. has-left (passed_kind asked row.kind) (sym (ap is_over_row (row-passed ∙ ap (option_map (passed_row asked)) found)) ∙ more);
+        left = λ made. has-left asked (passed_kind asked row.kind) (sym (ap (is_over_row asked) (row-passed ∙ ap (option_map (passed_row asked)) found)) ∙ more);
       }) sound
 
   pub prompts-gone_on : next_round (row_at prompt prompts) ≤ last_round → AreSoundPrompts conns prompts → AreSoundPrompts conns (gone_on prompt asked prompts)
   prompts-gone_on few sound =
-      let pass : (b : Bool) → is_over_row (row_at prompt over) ≡ b → AreSoundPrompts conns (cond b (ended prompt over) (asked_again prompt over)) =
+      let pass : (b : Bool) → is_over_row asked (row_at prompt over) ≡ b → AreSoundPrompts conns (cond b (ended prompt over) (asked_again prompt over)) =
       elim [
         | true ↦ λ is. subst (λ (p : Prompts). AreSoundPrompts conns p) (sym ended-passed) (prompts-ended conns prompt prompts sound)
         | false ↦ λ is.
-            prompts-asked_again conns prompt over (subst (λ n. n ≤ last_round) (sym round-passed) few) (λ row found. has-left row.kind (sym (ap is_over_row found) ∙ is))
+            prompts-asked_again conns prompt over (subst (λ n. n ≤ last_round) (sym round-passed) few) (λ row found. has-left asked row.kind (sym (ap (is_over_row asked) found) ∙ is))
             (prompts-passed is sound)
       ] in
-      pass (is_over_row (row_at prompt over)) refl
+      pass (is_over_row asked (row_at prompt over)) refl
 
 -- ---- what is sent
 
@@ -128,7 +130,7 @@ go_on-can state prompt few sound =
     let round : next_round (row_at prompt state.prompts) ≡ round_of row.stage + 1 = ap next_round found in
     let kind = passed_kind asks row.kind in
     let its : IsSoundKind kind = kind-passed asks row.kind was.kind in
-    let done : AllByRecursion CanWait (completes row kind) = (completed-can false None (record { prompt = row.prompt; owner = row.owner; kind = kind }) was.number its tt, tt) in
+    let done : AllByRecursion CanWait (completes row kind) = (completed-can (is_given_up kind) None (record { prompt = row.prompt; owner = row.owner; kind = kind }) was.number its tt, tt) in
     let more : (agent : Option ConnId) → AllByRecursion CanWait (asks_for state.collections row kind agent) =
     elim [
       | None ↦ tt
@@ -140,7 +142,7 @@ go_on-can state prompt few sound =
     ] in
     let pass : (b : Bool) → AllByRecursion CanWait (cond b (completes row kind) (asks_for state.collections row kind state.prompts.agent)) =
     elim [ true ↦ done | false ↦ more state.prompts.agent ] in
-    pass (is_over kind) in
+    pass (is_over asks kind) in
     let pass : (o : Option PromptRow) → row_at prompt state.prompts ≡ o → AllByRecursion CanWait (go_on_sent asks state.collections state.prompts.agent o) =
     elim [ None ↦ λ found. tt | Some row ↦ λ found. sent row found ] in
     pass (row_at prompt state.prompts) refl

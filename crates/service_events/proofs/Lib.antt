@@ -2,6 +2,7 @@ pub mod AdvanceLemmas
 pub mod AlikeLemmas
 pub mod AllowedLemmas
 pub mod AloneLemmas
+pub mod AnnouncedLemmas
 pub mod CertainLemmas
 pub mod DerivedMayLemmas
 pub mod EndLemmas
@@ -11,6 +12,7 @@ pub mod GoneOnLemmas
 pub mod MadeLemmas
 pub mod OpenedLemmas
 pub mod ReplayLemmas
+pub mod RekeyedLemmas
 pub mod RowsMayLemmas
 pub mod RunLemmas
 pub mod SmallLemmas

@@ -59,15 +59,16 @@ use Rattle.service_prompts.specs.collection_store.specs.declared.change.Changed.
 use Rattle.service_prompts.specs.service_tables.proofs.ShownLemmas.{item-attributes-typed, item-label-typed, item-times-typed, stems-typed, times-typed}
 use Rattle.service_events.specs.declared.holder.Holder.{Holder}
 use Rattle.service_events.specs.declared.holder.Holder.TheVariants as holder
+use Rattle.service_events.specs.KeyringCalls.{the_prompt}
 use Rattle.service_events.specs.PropertyCalls.{editing, editing_item, holder_of, on_holder, shown_by, value_of, value_returned}
-use Rattle.service_events.specs.ServiceCalls.{creating, is_plain, lock, get_secrets, next_prompt, no_collection, there_already, unlocking, with_new_prompt}
+use Rattle.service_events.specs.ServiceCalls.{creating, in_order, is_plain, lock, get_secrets, next_prompt, no_collection, there_already, unlocking, with_new_prompt}
 use Rattle.service_events.specs.SessionCalls.{with_session}
 use Rattle.service_events.specs.Step.{HasTypes, IsSalt, IsTypedName, plan_of, value_in}
 use Rattle.service_prompts.specs.service_tables.specs.Storing.{AreEditTypes, Brought, Edit, Add_item, Set_secret, Remove_item, Set_attributes, Set_label, Set_name, item_in, storable_edit}
 use Rattle.service_prompts.specs.service_tables.specs.declared.fate.StoreFate.{StoreFate}
 use Rattle.service_prompts.specs.service_tables.specs.declared.fate.StoreFate.TheVariants as stored
 use Rattle.service_prompts.specs.service_tables.specs.Sound.{AreSecretTypes, HasLeft, IsSoundKind, IsSoundTarget, IsTypedAlias, IsTypedText, AreOpened, IsSound}
-use Rattle.service_prompts.specs.service_tables.proofs.CollectionLemmas.{alias-named, target-stem, path-of, found-in-paths, found-locked, found-unlocked, named-paths, once-each, open-named, secret-typed, secrets-typed, there-named}
+use Rattle.service_prompts.specs.service_tables.proofs.CollectionLemmas.{alias-named, target-stem, path-of, found-in-paths, found-locked, found-unlocked, named-paths, named-stem, once-each, open-named, secret-typed, secrets-typed, there-named}
 use Rattle.service_prompts.proofs.UnlockingLemmas.{targets-sound, unlocked-paths}
 use Rattle.service_prompts.specs.service_tables.proofs.AliasLemmas.{is-alias}
 use Rattle.service_prompts.specs.service_tables.proofs.StoredLemmas.{storable-named}
@@ -111,7 +112,7 @@ module _ (caller : ConnId) (brought : Brought) where
   lock-may objects state sound =
       let there = once (filter (is_there (asked_collections (contents_of state))) objects) in
       let paths = named-paths there (once-each IsName (is_there (asked_collections (contents_of state))) (there-named (contents_of state) sound.collections) objects) in
-      (locks-allowed (filter_map (collection_around (asked_collections (contents_of state))) objects) state, (paths, tt))
+      (locks-allowed (in_order (filter_map (collection_around (asked_collections (contents_of state))) objects)) state, (paths, tt))
 
   -- a session that is owned has a number of its type
   and-second : (a b : Bool) → (a && b) ≡ true → b ≡ true
@@ -332,10 +333,10 @@ module _ (caller : ConnId) (brought : Brought) where
   -- ---- calls of prompts
 
   -- a number that is left has its type
-  prompt-number : (state : State) → IsSound state → state.prompts.next < 2 ^ 64
-  prompt-number state sound = omega (arith, sound.prompts.kept.numbered)
+  prompt-number : (state : State) → IsSound state → (0 < state.prompts.next) × (state.prompts.next < 2 ^ 64)
+  prompt-number state sound = (sound.prompts.kept.first, omega (arith, sound.prompts.kept.numbered))
 
-  new-may : (fits : Bool) (returned : Option PromptId → PublicBody) (kind : PromptKind) (state : State) → ((prompt : PromptId) → prompt.0 < 2 ^ 64 → AreTyped (body_with (returned (Some prompt)))) → IsSound state
+  new-may : (fits : Bool) (returned : Option PromptId → PublicBody) (kind : PromptKind) (state : State) → ((prompt : PromptId) → (0 < prompt.0) × (prompt.0 < 2 ^ 64) → AreTyped (body_with (returned (Some prompt)))) → IsSound state
       → (fits ≡ true → IsSoundKind kind) → MayRun caller brought (with_new_prompt fits returned kind (asked caller brought state)) state
   new-may fits returned kind state typed sound is =
       let next = next_prompt (asked caller brought state) in
@@ -355,7 +356,7 @@ module _ (caller : ConnId) (brought : Brought) where
       → MayRun caller brought (unlocking paths targets (asked caller brought state)) state
   unlocking-may paths [] state sound typed each = (tt, (typed, tt))
   unlocking-may paths (target ∷ targets) state sound typed each =
-      new-may (are_light (target ∷ targets)) (public.ObjectsAndPrompt paths) (kind.Unlock (all_left (target ∷ targets))) state (λ prompt number. (typed, number)) sound
+      new-may (are_light (target ∷ targets)) (public.ObjectsAndPrompt paths) (kind.Unlock (all_left (target ∷ targets))) state (λ prompt number. (typed, number.1)) sound
       (λ light. record { done = tt; left = each; light = omega (arith, leb-true (weight (target ∷ targets)) most_weight light) })
 
   alias-text : (alias : Option (List ℕ)) → IsTypedName alias → (option_map_or (λ (name : List ℕ). name) alias [] ≡ []) ⊎ IsTypedAlias (option_map_or (λ (name : List ℕ). name) alias [])
@@ -367,11 +368,19 @@ module _ (caller : ConnId) (brought : Brought) where
   creating-may label alias salt state sound random typed =
       let name_ = option_map_or (λ (name : List ℕ). name) alias [] in
       let new = kind.Create label name_ salt in
-      let may = new-may true no_collection new state (λ prompt number. (path-of object.Nothing tt, number)) sound
+      let may = new-may true no_collection new state (λ prompt number. (path-of object.Nothing tt, number.1)) sound
       (λ fits. record { label = typed.0; alias = alias-text alias typed.1; salt = random.eight; each = random.bytes }) in
       let pass : (b : Bool) → MayRun caller brought (cond b (refused name.LimitsExceeded) (with_new_prompt true no_collection new (asked caller brought state))) state =
       elim [ true ↦ (tt, tt) | false ↦ may ] in
       pass (nat_le the_limits.collections (asked_collections (contents_of state)).count)
+
+  -- the password of a collection that is there
+  change-may : (salt : List ℕ) (state : State) → IsSound state → IsSalt salt → (named : Option (List ℕ)) → ((stem : List ℕ) → named ≡ Some stem → IsStem stem)
+      → MayRun caller brought (on_collection named (λ stem. if_open stem (asked caller brought state) (with_new_prompt true the_prompt (kind.Change stem salt) (asked caller brought state)))) state
+  change-may salt state sound random None stems = (tt, tt)
+  change-may salt state sound random (Some stem) stems =
+      if-may (is_open stem state.collections) (with_new_prompt true the_prompt (kind.Change stem salt) (asked caller brought state)) name.IsLocked state
+      (new-may true the_prompt (kind.Change stem salt) state (λ prompt number. path-of (object.Prompt prompt) number) sound (λ fits. record { stem = stems stem refl; salt = random.eight; each = random.bytes }))
 
   alias-stem : (state : State) → IsSound state → (alias : Option (List ℕ)) (stem : List ℕ) → option_and_then (asked_collections (contents_of state)).alias alias ≡ Some stem → IsStem stem
   alias-stem state sound None stem is = absurd (let no : None ≡ Some stem = is in cc)
@@ -440,19 +449,22 @@ module _ (caller : ConnId) (brought : Brought) where
       (λ ended. ((tt, tt), target-answered-may prompt round target.stem (settled (Collection_file target.stem) ended state) derive go), target-answered-may prompt round target.stem state derive go)
 
   kind-answered-may : (prompt : PromptId) (round : ℕ) (k : PromptKind) (state : State) → IsAllowed caller (Derive_key prompt round) state → IsAllowed caller (Go_on prompt) state
-      → MayRun caller brought (kind_answered prompt round k) state
+      → MayRun caller brought (kind_answered prompt round k (asked_collections (contents_of state))) state
   kind-answered-may prompt round (kind.Unlock targets) state derive go = left-answered-may prompt round targets.left state derive go
   kind-answered-may prompt round (kind.Create label alias salt) state derive go = ((derive, tt), tt)
+  kind-answered-may prompt round (kind.Change stem salt) state derive go =
+      let pass : (b : Bool) → MayRun caller brought (cond b (deriving_key prompt round) (going_on prompt)) state = elim [ true ↦ ((derive, tt), tt) | false ↦ ((go, tt), tt) ] in
+      pass (is_open stem state.collections)
 
   row-answered-may : (prompt : PromptId) (round : ℕ) (row : PromptRow) (state : State) → IsSound state → row_at prompt state.prompts ≡ Some row → row.stage ≡ Asked round
-      → MayRun caller brought (row_answered prompt round (Some row)) state
+      → MayRun caller brought (row_answered prompt round (Some row) (asked_collections (contents_of state))) state
   row-answered-may prompt round row state sound found stage =
       let is : IsStage (Asked round) = subst IsStage stage (found-row (λ (row : PromptRow). IsStage row.stage) prompt state.prompts row sound.prompts.kept.rounds found) in
       let left : HasLeft row.kind = (found-row IsSoundPrompt prompt state.prompts row sound.prompts.each found).left (ap is_made stage) in
       let more : HasMore prompt state = λ other at. subst (λ (r : PromptRow). HasLeft r.kind) (some-same row other (sym found ∙ at)) left in
       let next : next_round (row_at prompt state.prompts) ≡ round + 1 = ap next_round found ∙ ap (λ s. round_of s + 1) stage in
       let pass : (b : Bool) → nat_eq round last_round ≡ b
-      → MayRun caller brought (cond b (answered public.Empty (End_prompt prompt true None ∷ [])) (kind_answered prompt round row.kind)) state =
+      → MayRun caller brought (cond b (answered public.Empty (End_prompt prompt true None ∷ [])) (kind_answered prompt round row.kind (asked_collections (contents_of state)))) state =
       elim [
         | true ↦ λ at. ((tt, tt), tt)
         | false ↦ λ at.
@@ -467,12 +479,12 @@ module _ (caller : ConnId) (brought : Brought) where
       pass (is_agent caller state.prompts)
   answer-may (Some prompt) round state sound =
       let pass : (o : Option PromptRow) → row_at prompt state.prompts ≡ o → refusal prompt round caller state.prompts ≡ None
-      → MayRun caller brought (row_answered prompt round o) state =
+      → MayRun caller brought (row_answered prompt round o (asked_collections (contents_of state))) state =
       elim [
         | None ↦ λ found none. (tt, tt)
         | Some row ↦ λ found none. row-answered-may prompt round row state sound found (stage-asked round row.stage (not-refused prompt round state.prompts row found none))
       ] in
-      unless-none-may (refusal prompt round caller state.prompts) (row_answered prompt round (row_at prompt state.prompts)) state
+      unless-none-may (refusal prompt round caller state.prompts) (row_answered prompt round (row_at prompt state.prompts) (asked_collections (contents_of state))) state
       (pass (row_at prompt state.prompts) refl)
 
   -- each row's plan may be run
@@ -493,6 +505,8 @@ module _ (caller : ConnId) (brought : Brought) where
       created-may (Add_item label attributes secret.content replace) secret.session secret.content state sound
       (small, (types.0, subst (λ value. AreSecretTypes value secret.content) (sym same) types.1)) (collection_named (asked_collections (contents_of state)) collection)
   may-run salt state (Ok (call.DeleteCollection collection)) sound small random types same = erased-may state (collection_named (asked_collections (contents_of state)) collection)
+  may-run salt state (Ok (call.ChangePassword collection)) sound small random types same =
+      change-may salt state sound random (collection_named (asked_collections (contents_of state)) collection) (named-stem (contents_of state) sound.collections collection)
   may-run salt state (Ok (call.DeleteItem stem item)) sound small random types same =
       let edit = Remove_item item in
       let given = storable_edit brought state.collections stem edit in

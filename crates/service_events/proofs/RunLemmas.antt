@@ -1,6 +1,5 @@
 -- What a plan leaves alone, whatever it does, and which plans ask nothing of the disk.
-use Rattle.std.proofs.Common.{◌≡◌, ℕ, Bool, true, false, cond, nat_le, List, [], ◌∷◌, ◌++◌, map, Option, Some, None, Result, Ok, Err, refl, ap, ◌∙◌}
-use Rattle.std.specs.List.{AllByRecursion}
+use Rattle.std.proofs.Common.{◌≡◌, ℕ, Bool, true, false, cond, nat_le, List, [], ◌∷◌, Option, Some, None, Result, Ok, Err, refl, ◌∙◌}
 use Rattle.std.specs.Option.{option_and_then}
 use Rattle.kr_base.specs.declared.ids.ConnId.{ConnId}
 use Rattle.kr_base.specs.declared.ids.PromptId.{PromptId}
@@ -34,10 +33,11 @@ use Rattle.service_events.specs.declared.event.Recorded.{Recorded}
 use Rattle.service_events.specs.AgentCalls.{in_round, unless_refused}
 use Rattle.service_events.specs.CollectionCalls.{on_collection}
 use Rattle.service_events.specs.ItemCalls.{secret_if_open}
+use Rattle.service_events.specs.KeyringCalls.{the_prompt}
 use Rattle.service_events.specs.Plan.{Aliases_file, Answer, Change, Collection_file, Demand, KeyTerms, Open_session, Close_session, Lock_collection, Begin_prompt, Ask_prompt, Derive_key, Count_wrong, Clear_wrong, Go_on, End_prompt, Become_agent, Leave_agent, Plan, Ends, Asks, Resolves, Opens, Questions, Reading, Secret_of, given, refused}
 use Rattle.service_events.specs.PublicBody.{PublicBody}
 use Rattle.service_events.specs.PublicBody as public
-use Rattle.service_events.specs.Run.{AreFates, AreNone, asked, by_read, by_reading, by_store, by_test, demanded, failing, filled, fits, if_fits, is_in_doubt, performed, performed_all, promised, sending, sent_all, sent_asked, sent_by, sent_opened, sent_settled, settled, Ran, run, unlocked_with}
+use Rattle.service_events.specs.Run.{AreFates, AreNone, asked, by_read, by_reading, by_store, by_test, demanded, failing, filled, fits, if_fits, is_in_doubt, performed, performed_all, promised, sending, sent_all, sent_asked, sent_opened, sent_settled, settled, Ran, run, unlocked_with}
 use Rattle.service_prompts.specs.secret_calls.specs.declared.property.PropertyValue.{PropertyValue}
 use Rattle.service_events.specs.declared.holder.Holder.{Holder}
 use Rattle.service_events.specs.PropertyCalls.{holder_of, on_holder, value_of, value_returned}
@@ -151,52 +151,6 @@ pub connections-served : (came : Recorded) (state : State) → (served came stat
 connections-served came state =
     connections-run came.arrival.conn (brought_by came.arrival) (plan_for came state) came.fates state
 
--- ---- what is sent
-
--- a change that sends nothing
-abbrev pub IsSilent : Change → Type 0
-IsSilent Open_session = Unit {0}
-IsSilent (Close_session session) = Unit {0}
-IsSilent (Lock_collection stem) = Unit {0}
-IsSilent (Begin_prompt kind) = Unit {0}
-IsSilent (Ask_prompt prompt) = ⊥
-IsSilent (Derive_key prompt round) = Unit {0}
-IsSilent (Count_wrong prompt) = Unit {0}
-IsSilent (Clear_wrong prompt) = Unit {0}
-IsSilent (Go_on prompt) = ⊥
-IsSilent (End_prompt prompt dismissed created) = ⊥
-IsSilent Become_agent = ⊥
-IsSilent Leave_agent = Unit {0}
-
--- changes that send nothing
-abbrev pub AreSilent : List Change → Type 0
-AreSilent changes = AllByRecursion IsSilent changes
-
-silent-one : (caller : ConnId) (change : Change) (state : State) → IsSilent change → sent_by caller change state ≡ []
-silent-one caller Open_session state silent = refl
-silent-one caller (Close_session session) state silent = refl
-silent-one caller (Lock_collection stem) state silent = refl
-silent-one caller (Begin_prompt kind) state silent = refl
-silent-one caller (Ask_prompt prompt) state silent = absurd silent
-silent-one caller (Derive_key prompt round) state silent = refl
-silent-one caller (Count_wrong prompt) state silent = refl
-silent-one caller (Clear_wrong prompt) state silent = refl
-silent-one caller (Go_on prompt) state silent = absurd silent
-silent-one caller (End_prompt prompt dismissed created) state silent = absurd silent
-silent-one caller Become_agent state silent = absurd silent
-silent-one caller Leave_agent state silent = refl
-
-pub silent-all : (caller : ConnId) (changes : List Change) (state : State) → AreSilent changes → sent_all caller changes state ≡ []
-silent-all caller [] state silent = refl
-silent-all caller (change ∷ changes) state silent =
-    ap (λ sends. sends ++ sent_all caller changes (performed caller change state)) (silent-one caller change state silent.0)
-    ∙ silent-all caller changes (performed caller change state) silent.1
-
--- a change that locks a collection sends nothing
-pub silent-locks : (stems : List (List ℕ)) → AreSilent (map Lock_collection stems)
-silent-locks [] = tt
-silent-locks (stem ∷ stems) = (tt, silent-locks stems)
-
 -- ---- plans that end at once
 
 -- a plan asks nothing of the disk, and nothing of a state in between
@@ -306,6 +260,8 @@ quiet-row salt (Ok (call.SetCollectionLabel collection label)) asked nothing = a
 quiet-row salt (Ok (call.SetItemLabel stem item label)) asked nothing = absurd nothing
 quiet-row salt (Ok (call.SetAttributes stem item attributes)) asked nothing = absurd nothing
 quiet-row salt (Ok (call.CreateCollection label alias)) asked nothing = quiet-there (option_and_then asked.collections.alias alias) (creating label alias salt asked) (quiet-creating label alias salt asked)
+quiet-row salt (Ok (call.ChangePassword collection)) asked nothing =
+    quiet-collection (collection_named asked.collections collection) _ (λ stem. quiet-if (asked.collections.is_open stem) _ (refused name.IsLocked) (quiet-new true the_prompt _ asked) tt)
 quiet-row salt (Ok (call.Unlock objects)) asked nothing = quiet-unlocking (unlocked_there asked.collections objects) (targets_of asked.collections objects) asked
 quiet-row salt (Ok (call.Prompt prompt)) asked nothing = quiet-if (asked.prompts.owns prompt) _ (refused name.NoSuchObject) tt tt
 quiet-row salt (Ok (call.Dismiss prompt)) asked nothing = quiet-if (asked.prompts.owns prompt) _ (refused name.NoSuchObject) tt tt
@@ -313,4 +269,5 @@ quiet-row salt (Ok call.Register) asked nothing = quiet-if asked.prompts.is_take
 quiet-row salt (Ok call.Unregister) asked nothing = quiet-if asked.prompts.is_agent _ (refused name.AccessDenied) tt tt
 quiet-row salt (Ok (call.Answer prompt round password)) asked nothing = absurd nothing
 quiet-row salt (Ok (call.Refuse prompt round)) asked nothing = quiet-round prompt round asked _ (λ it. tt)
+quiet-row salt (Err fault) asked nothing = tt
 quiet-row salt _ asked nothing = tt

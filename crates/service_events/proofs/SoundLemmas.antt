@@ -6,19 +6,19 @@ use Rattle.service_prompts.specs.secret_calls.specs.declared.call.Request.{Reque
 use Rattle.service_prompts.specs.secret_calls.specs.declared.out.Body.{Body}
 use Rattle.service_prompts.specs.secret_calls.specs.declared.out.ErrorName.{ErrorName}
 use Rattle.service_prompts.specs.secret_calls.proofs.SizeLemmas.{error-fits, error-short, return-waits}
-use Rattle.service_prompts.specs.secret_calls.specs.Outs.{HasSpelling}
+use Rattle.service_prompts.specs.secret_calls.specs.declared.out.Out.{Out}
 use Rattle.service_prompts.specs.service_tables.specs.State.{State}
-use Rattle.service_prompts.specs.service_tables.specs.declared.rows.ConnRow.{ConnRow}
+use Rattle.service_prompts.specs.service_tables.specs.signal_fanout.specs.declared.rows.ConnRow.{ConnRow}
 use Rattle.service_events.specs.declared.event.Event.{Event}
 use Rattle.service_events.specs.declared.event.Event.TheVariants as event
 use Rattle.service_prompts.specs.service_tables.specs.Connections.{new_row, joined, has, changed, left, emptied, size_of, with_out}
-use Rattle.service_prompts.specs.service_tables.specs.Sent.{One, Sent, is_for}
+use Rattle.service_prompts.specs.service_tables.specs.Sent.{Everyone, One, Recipient, Sent, is_for}
 use Rattle.service_events.specs.declared.event.Recorded.{Recorded}
 use Rattle.service_prompts.specs.service_tables.specs.Opened.{Contents, opened_state}
 use Rattle.service_events.specs.Run.{asked}
 use Rattle.service_events.specs.Step.{replies, with_rows, with_delivered, brought_by, message_of, served, put_out, puts_out, step, Fits, FitsRequest, finished}
 use Rattle.service_events.specs.Replay.{replay, Legal}
-use Rattle.service_prompts.specs.service_tables.specs.Sound.{CanWait, WaitsWell, AreSoundContents, IsSound}
+use Rattle.service_prompts.specs.service_tables.specs.Sound.{CanWait, CanWaitFor, IsSpelled, WaitsWell, AreSoundContents, IsSound}
 use Rattle.service_prompts.proofs.PromptLemmas.{prompts-among, prompts-gone, prompts-none}
 use Rattle.service_prompts.specs.service_tables.proofs.EachLemmas.{each-append, each-weaker}
 use Rattle.service_events.proofs.SmallLemmas.{IsSmall, answer-small}
@@ -50,9 +50,14 @@ pub sound-changed : (conn : ConnId) (change : ConnRow → ConnRow) → KeepsNumb
     → IsSound (with_rows (changed conn change state.connections.rows) state)
 sound-changed conn change keeps well state sound = sound-mapped (after conn change) (after-number conn change keeps) (after-well conn change well) state sound
 
--- outputs on their way, each of which has a spelling
+-- outputs on their way, each of which has a spelling unless it is too long to wait
 abbrev pub AreSpelled : List Sent → Type 0
-AreSpelled sent = AllByRecursion (λ one. HasSpelling one.out) sent
+AreSpelled sent = AllByRecursion (λ one. IsSpelled one.out) sent
+
+-- what can wait is so, whomever it is for
+can-spelled : (to : Recipient) (out : Out) → CanWaitFor to out → IsSpelled out
+can-spelled (One conn) out can = λ small. can.spelled
+can-spelled Everyone out can = can
 
 pub sound-delivered : (sent : List Sent) → AreSpelled sent → (state : State) → IsSound state → IsSound (with_delivered sent state)
 sound-delivered [] spelled state sound = sound
@@ -129,11 +134,11 @@ sound_step state (event.Connect conn) sound fits = record {
 sound_step state (event.Arrive came) sound fits =
     let ran = served came state in
     let sent = put_out came.arrival.conn came.arrival.request ran in
-    sound-delivered sent (each-weaker CanWait (λ sent. HasSpelling sent.out) (λ sent waits. waits.spelled) sent (served-waits came state sound fits.0 fits.1))
+    sound-delivered sent (each-weaker CanWait (λ sent. IsSpelled sent.out) (λ sent can. can-spelled sent.to sent.out can) sent (served-waits came state sound fits.0 fits.1))
     ran.state (served-well came state sound fits.0 fits.1).sound
 sound_step state (event.Derived came) sound fits =
     let ran = finished came state in
-    sound-delivered ran.sends (each-weaker CanWait (λ sent. HasSpelling sent.out) (λ sent waits. waits.spelled) ran.sends (finished-well came state sound fits.0 fits.1).waits)
+    sound-delivered ran.sends (each-weaker CanWait (λ sent. IsSpelled sent.out) (λ sent can. can-spelled sent.to sent.out can) ran.sends (finished-well came state sound fits.0 fits.1).waits)
     ran.state (finished-well came state sound fits.0 fits.1).sound
 sound_step state (event.Leave conn) sound fits = sound-changed conn left (λ row. refl) (λ row well. record { within = well.within; spelled = well.spelled }) state sound
 sound_step state (event.Take conn) sound fits = sound-changed conn emptied (λ row. refl) (λ row well. record { within = omega arith; spelled = tt }) state sound

@@ -44,7 +44,7 @@ abbrev pub storing : List ℕ → Edit → (Changed → PublicBody) → Option C
 storing stem edit returned None = refused name.LimitsExceeded
 storing stem edit returned (Some answer) = Asks (Store stem edit) (by_fate (returned answer))
 
--- the same of an edit that brings a secret with this content type, which may be too long
+-- the same for an edit that brings a secret with this content type, which may be too long
 abbrev pub storing_secret : List ℕ → List ℕ → Edit → (Changed → PublicBody) → Questions → Plan
 storing_secret content stem edit returned asked =
     if nat_le (length content) most_content

@@ -15,17 +15,17 @@ use Rattle.service_disk.specs.declared.opening.Opening.TheVariants as ends
 use Rattle.service_prompts.specs.service_tables.specs.declared.fate.StoreFate.{StoreFate}
 use Rattle.service_prompts.specs.service_tables.specs.declared.fate.StoreFate.TheVariants as fate
 use Rattle.service_events.specs.AliasCalls.{alias_settled}
-use Rattle.service_events.specs.Plan.{KeyTerms, Questions, Change, Plan, Asks, Opens, Ask_prompt, Clear_wrong, Count_wrong, End_prompt, Go_on, Make, answered, followed}
+use Rattle.service_events.specs.Plan.{KeyTerms, Questions, Change, Plan, Asks, Opens, Ask_prompt, Clear_wrong, Count_wrong, End_prompt, Go_on, Make, Rekey, answered, followed}
 
 -- at so many wrong answers, one after the other, the prompt ends
 abbrev pub most_wrong_answers : ℕ
 most_wrong_answers = 3
 
--- how often the password of a new collection is hashed
+-- how often a new password is hashed, of a new collection or of one whose password is changed
 abbrev pub new_iterations : ℕ
 new_iterations = 10000
 
--- these changes, of which the caller gets no answer
+-- these changes, to which the caller gets no answer
 abbrev pub quietly : List Change → Plan
 quietly changes = answered public.Empty changes
 
@@ -50,14 +50,14 @@ opening_ended prompt wrong stem terms ends.WrongPassword = wrong_again prompt wr
 opening_ended prompt wrong stem terms ends.Damaged = dismissing prompt
 opening_ended prompt wrong stem terms ends.Opened = Opens stem terms (quietly (Clear_wrong prompt ∷ Go_on prompt ∷ []))
 
--- the same of the first target that is left
+-- the same for the first target that is left
 abbrev pub left_derived : PromptId → ℕ → List Target → KeyTerms → Questions → Plan
 left_derived prompt wrong [] terms asked = quietly (Go_on prompt ∷ [])
 left_derived prompt wrong (target ∷ left) terms asked = opening_ended prompt wrong target.stem terms (asked.files.opening terms target.stem)
 
 -- ---- a prompt that creates a collection
 
--- whether these are the terms of the work: the salt of the prompt, and the iterations of a new collection
+-- whether these are the terms of the work: the salt of the prompt, and the iterations of a new password
 abbrev pub are_terms : List ℕ → KeyTerms → Bool
 are_terms salt terms = is_name terms.salt salt && terms.iterations == new_iterations
 
@@ -66,7 +66,7 @@ abbrev pub can_make : List ℕ → List ℕ → KeyTerms → Questions → Bool
 can_make label salt terms asked =
     are_terms salt terms && (nat_le (asked.collections.count + 1) the_limits.collections && asked.files.has_room terms label)
 
--- the prompt ends completed, with the collection that it created
+-- the prompt ends completed, with the collection that it created or whose password it changed
 abbrev pub completing : PromptId → List ℕ → List Change
 completing prompt stem = End_prompt prompt false (Some stem) ∷ []
 
@@ -75,7 +75,7 @@ abbrev pub alias_given : PromptId → List ℕ → List ℕ → Plan
 alias_given prompt [] stem = quietly (completing prompt stem)
 alias_given prompt (byte ∷ bytes) stem = followed (completing prompt stem) (alias_settled (byte ∷ bytes) (Some stem))
 
--- by how the making of the collection ended: if it isn't stored, or that isn't known, the prompt ends dismissed
+-- by how making the collection ended: if it isn't stored, or that isn't known, the prompt ends dismissed
 abbrev pub making_ended : PromptId → List ℕ → List ℕ → StoreFate → Plan
 making_ended prompt alias stem fate.Stored = alias_given prompt alias stem
 making_ended prompt alias stem fate.Before = dismissing prompt
@@ -88,14 +88,31 @@ collection_made prompt label alias salt terms asked =
     then Asks (Make (asked.files.stem_for label) label terms) (making_ended prompt alias (asked.files.stem_for label))
     else dismissing prompt
 
--- ---- either
+-- ---- a prompt that changes a password
+
+-- by how the storing of the collection under the new key ended: if it isn't stored, or that isn't known, the prompt ends dismissed
+abbrev pub changing_ended : PromptId → List ℕ → StoreFate → Plan
+changing_ended prompt stem fate.Stored = quietly (completing prompt stem)
+changing_ended prompt stem fate.Before = dismissing prompt
+changing_ended prompt stem fate.Unsure = dismissing prompt
+
+-- the collection is stored under the key, if it is unlocked and there is room
+abbrev pub stored_under : PromptId → List ℕ → KeyTerms → Questions → Plan
+stored_under prompt stem terms asked = if asked.files.can_rekey terms stem then Asks (Rekey stem terms) (changing_ended prompt stem) else dismissing prompt
+
+-- the same if the terms are those of the work
+abbrev pub password_changed : PromptId → List ℕ → List ℕ → KeyTerms → Questions → Plan
+password_changed prompt stem salt terms asked = if are_terms salt terms then stored_under prompt stem terms asked else dismissing prompt
+
+-- ---- any
 
 -- by what the prompt is for
 abbrev pub kind_derived : PromptId → ℕ → PromptKind → KeyTerms → Questions → Plan
 kind_derived prompt wrong (kind.Unlock targets) terms asked = left_derived prompt wrong targets.left terms asked
 kind_derived prompt wrong (kind.Create label alias salt) terms asked = collection_made prompt label alias salt terms asked
+kind_derived prompt wrong (kind.Change stem salt) terms asked = password_changed prompt stem salt terms asked
 
--- the same of a prompt whose key is derived in the round; otherwise nothing happens
+-- the same for a prompt whose key is derived in the round; otherwise nothing happens
 abbrev pub row_derived : PromptId → ℕ → Option PromptRow → KeyTerms → Questions → Plan
 row_derived prompt round None terms asked = quietly []
 row_derived prompt round (Some row) terms asked = if is_deriving_in round row.stage then kind_derived prompt row.wrong row.kind terms asked else quietly []

@@ -14,7 +14,7 @@ use Rattle.service_prompts.specs.service_tables.specs.declared.fate.Fate.TheVari
 use Rattle.service_prompts.specs.service_tables.specs.declared.fate.ReadFate.{ReadFate}
 use Rattle.service_prompts.specs.service_tables.specs.declared.fate.StoreFate.{StoreFate}
 
--- the fate of a storing, if there was one
+-- how storing a file ended, if one was to be stored
 abbrev pub stores_of : Option StoreFate → List Fate
 stores_of None = []
 stores_of (Some ended) = fate.Store ended ∷ []
@@ -24,7 +24,7 @@ abbrev pub reads_of : Option ReadFate → List Fate
 reads_of None = []
 reads_of (Some ended) = fate.Read ended ∷ []
 
--- the event of a request, with how its storings and its resolves ended
+-- the event of a request, with how each storing and each resolve ended that it asked for
 abbrev pub with_fates : Arrival → List Fate → Event
 with_fates arrival fates = event.Arrive (record { arrival = arrival; fates = fates })
 

@@ -9,12 +9,14 @@ pub use Rattle.service_prompts
 pub use Rattle.service_prompts.specs.service_tables
 pub mod AgentCalls
 pub mod AliasCalls
+pub mod Announced
 pub mod AnswerCalls
 pub mod CollectionCalls
 pub mod Derivation
 pub mod Fates
 pub mod Incoming
 pub mod ItemCalls
+pub mod KeyringCalls
 pub mod Plan
 pub mod PromptCalls
 pub mod PropertyCalls

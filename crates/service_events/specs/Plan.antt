@@ -1,7 +1,7 @@
 -- A row of the table of calls is a plan: what it may ask of the state, what it answers, and what it may change. A
 -- row sees only the answers to its questions, and changes something only by these changes, so what is true of every question and
 -- of every kind of change is true of all rows. No question shows the value of a secret, a password or a key: a plan says whose secret is
--- given, and the password that an event brings is used where a collection is opened or made, and nowhere else. What a row answers by itself has
+-- given, and the password that an event brings is used where a collection is opened, made or stored under a new key, and nowhere else. What a row answers by itself has
 -- no room for a secret.
 use Rattle.std.specs.Prelude.{ℕ, Bool, List, [], ◌++◌, Option}
 use Rattle.kr_base.specs.declared.ids.ItemId.{ItemId}
@@ -40,6 +40,8 @@ pub record FileQuestions : Type 0 where
   pub stem_for : List ℕ → List ℕ
   -- whether the file of a new collection of this label, with such a key, keeps within the limits of one file and of all files together
   pub has_room : KeyTerms → List ℕ → Bool
+  -- whether the collection of the stem is unlocked, and its file under such a key keeps within these limits
+  pub can_rekey : KeyTerms → List ℕ → Bool
 
 -- what a row may ask: a record for each table, one for the files, and what can be stored
 pub record Questions : Type 0 where
@@ -61,8 +63,10 @@ pub data Demand : Type 0 where
   Set_alias : (alias : List ℕ) → (stem : Option (List ℕ)) → Demand
   -- a collection of this label is made under the stem, and stored with the key of these terms and of the password that the event brings
   Make : (stem : List ℕ) → (label : List ℕ) → (terms : KeyTerms) → Demand
+  -- the collection of the stem is stored under the key of these terms and of the password that the event brings
+  Rekey : (stem : List ℕ) → (terms : KeyTerms) → Demand
 
--- a file that has to be known before a row goes on
+-- a file that has to be known before a row continues
 pub data Reading : Type 0 where
   -- the file of the aliases
   Aliases_file : Reading
@@ -87,10 +91,11 @@ pub data Change : Type 0 where
   Count_wrong : (prompt : PromptId) → Change
   -- the prompt has no wrong answers
   Clear_wrong : (prompt : PromptId) → Change
-  -- the prompt passes over its first targets that are gone or done, and is asked in its next round for the one that is left; if none is,
-  -- it ends completed. The agent is sent Ask, if there is one, or the owner Completed.
+  -- The prompt passes over its first targets that are gone or done, and is asked in its next round for the one that is left; if none is,
+  -- it ends completed. One that changes the password of a collection that isn't unlocked ends dismissed. The agent is sent Ask, if there is one, or
+  -- the owner Completed.
   Go_on : (prompt : PromptId) → Change
-  -- the prompt ends, dismissed or not, and with the collection that it created, if it did; its owner is sent Completed
+  -- the prompt ends, dismissed or not, and with the collection that it created or whose password it changed, if it did; its owner is sent Completed
   End_prompt : (prompt : PromptId) → (dismissed : Bool) → (created : Option (List ℕ)) → Change
   -- the caller is the agent; it is sent Ask for each prompt that is asked
   Become_agent : Change

@@ -1,6 +1,6 @@
 -- The rows of the table of calls for the interface Prompt (Secret Service API draft 0.2, "org.freedesktop.Secret.Prompt"), and how a prompt
 -- advances. The refusals are in their order.
-use Rattle.std.specs.Prelude.{◌+◌, Bool, false, true, if◌then◌else◌, List, [], ◌∷◌, ◌++◌, Option, Some, None}
+use Rattle.std.specs.Prelude.{◌+◌, Bool, false, true, not, if◌then◌else◌, List, [], ◌∷◌, ◌++◌, Option, Some, None}
 use Rattle.std.specs.Option.{option_map_or}
 use Rattle.kr_base.specs.declared.ids.ConnId.{ConnId}
 use Rattle.kr_base.specs.declared.ids.PromptId.{PromptId}
@@ -21,7 +21,7 @@ use Rattle.service_events.specs.Plan.{Questions, Change, Plan, End_prompt, Go_on
 
 -- A prompt that unlocks advances by the targets that are left: each whose collection is gone is dropped, and each whose collection is unlocked
 -- is done, up to the first one whose collection is locked, for which the prompt is asked. If there is none, the prompt ends completed. One that
--- creates a collection is asked.
+-- creates a collection is asked. One that changes the password of a collection is asked if the collection is unlocked, and ends dismissed otherwise.
 
 -- the targets of a prompt once those were passed over that are gone or done
 abbrev pub passed : CollectionQuestions → List Target → List Target → TargetLists
@@ -31,10 +31,11 @@ passed asked done (target ∷ left) =
     then (if asked.is_open target.stem then passed asked (done ++ target ∷ []) left else record { done = done; left = target ∷ left })
     else passed asked done left
 
--- the same of what a prompt is for
+-- the same for what a prompt is for
 abbrev pub passed_kind : CollectionQuestions → PromptKind → PromptKind
 passed_kind asked (kind.Unlock targets) = kind.Unlock (passed asked targets.done targets.left)
 passed_kind asked (kind.Create label alias salt) = kind.Create label alias salt
+passed_kind asked (kind.Change stem salt) = kind.Change stem salt
 
 -- whether no target is left
 abbrev pub are_none : List Target → Bool
@@ -42,14 +43,21 @@ are_none [] = true
 are_none (target ∷ left) = false
 
 -- whether there is nothing more to ask for
-abbrev pub is_over : PromptKind → Bool
-is_over (kind.Unlock targets) = are_none targets.left
-is_over (kind.Create label alias salt) = false
+abbrev pub is_over : CollectionQuestions → PromptKind → Bool
+is_over asked (kind.Unlock targets) = are_none targets.left
+is_over asked (kind.Create label alias salt) = false
+is_over asked (kind.Change stem salt) = not (asked.is_open stem)
 
--- the same of a prompt, if it is there
-abbrev pub is_over_row : Option PromptRow → Bool
-is_over_row None = false
-is_over_row (Some row) = is_over row.kind
+-- whether a prompt of this kind is dismissed once there is nothing more to ask for
+abbrev pub is_given_up : PromptKind → Bool
+is_given_up (kind.Unlock targets) = false
+is_given_up (kind.Create label alias salt) = false
+is_given_up (kind.Change stem salt) = true
+
+-- the same for a prompt, if it is there
+abbrev pub is_over_row : CollectionQuestions → Option PromptRow → Bool
+is_over_row asked None = false
+is_over_row asked (Some row) = is_over asked row.kind
 
 -- whether there is a prompt on which Prompt hasn't been called yet
 abbrev pub is_made_row : Option PromptRow → Bool
@@ -82,13 +90,13 @@ ask_for collections row kind agent = ask_signal collections kind (record { agent
 abbrev pub asks_for : Rows → PromptRow → PromptKind → Option ConnId → List Sent
 asks_for collections row kind agent = option_map_or (ask_for collections row kind) agent []
 
--- the signal Completed for a row that isn't dismissed
+-- the signal Completed for a row with nothing left to ask for
 abbrev pub completes : PromptRow → PromptKind → List Sent
-completes row kind = completed_signal false None (record { prompt = row.prompt; owner = row.owner; kind = kind }) ∷ []
+completes row kind = completed_signal (is_given_up kind) None (record { prompt = row.prompt; owner = row.owner; kind = kind }) ∷ []
 
 -- what is sent when the prompt of a row advances: Ask for the kind of prompt that is left, or Completed if nothing is
-abbrev pub advance_sent : Rows → PromptRow → PromptKind → Option ConnId → List Sent
-advance_sent collections row kind agent = if is_over kind then completes row kind else asks_for collections row kind agent
+abbrev pub advance_sent : CollectionQuestions → Rows → PromptRow → PromptKind → Option ConnId → List Sent
+advance_sent asked collections row kind agent = if is_over asked kind then completes row kind else asks_for collections row kind agent
 
 -- ---- an advance as a change of the prompts
 
@@ -101,14 +109,14 @@ abbrev pub passed_over : PromptId → CollectionQuestions → Prompts → Prompt
 passed_over prompt asked prompts = changed prompt (passed_row asked) prompts
 
 -- the prompts once this one, whose first targets were passed over, ended or was asked
-abbrev pub over_or_asked : PromptId → Prompts → Prompts
-over_or_asked prompt prompts = if is_over_row (row_at prompt prompts) then ended prompt prompts else asked_again prompt prompts
+abbrev pub over_or_asked : PromptId → CollectionQuestions → Prompts → Prompts
+over_or_asked prompt asked prompts = if is_over_row asked (row_at prompt prompts) then ended prompt prompts else asked_again prompt prompts
 
 -- the prompts once this one advanced
 abbrev pub gone_on : PromptId → CollectionQuestions → Prompts → Prompts
-gone_on prompt asked prompts = over_or_asked prompt (passed_over prompt asked prompts)
+gone_on prompt asked prompts = over_or_asked prompt asked (passed_over prompt asked prompts)
 
 -- what is sent then, if the prompt is there
 abbrev pub go_on_sent : CollectionQuestions → Rows → Option ConnId → Option PromptRow → List Sent
 go_on_sent asked collections agent None = []
-go_on_sent asked collections agent (Some row) = advance_sent collections row (passed_kind asked row.kind) agent
+go_on_sent asked collections agent (Some row) = advance_sent asked collections row (passed_kind asked row.kind) agent

@@ -108,7 +108,7 @@ editing stem edit asked = if_open stem asked (storing stem edit (λ _. public.Em
 abbrev pub set_collection_label : ObjectName → List ℕ → Questions → Plan
 set_collection_label collection label asked = on_collection (collection_named asked.collections collection) (λ stem. editing stem (Set_name label) asked)
 
--- the same of an item: NoSuchObject if it isn't there
+-- the same for an item: NoSuchObject if it isn't there
 abbrev pub editing_item : List ℕ → ItemId → Edit → Questions → Plan
 editing_item stem item edit asked = if asked.collections.has_item stem item then editing stem edit asked else refused name.NoSuchObject
 

@@ -23,9 +23,12 @@ use Rattle.service_prompts.specs.service_tables.specs.Opened.{Contents, contents
 use Rattle.key_derivation.specs.Kdf.{Inputs}
 use Rattle.service_disk.specs.Making as making
 use Rattle.service_disk.specs.Opening.{opening_of, rows_opened}
+use Rattle.service_disk.specs.Rekeying as rekeying
+use Rattle.service_disk.specs.Rekeying.{rows_rekeyed}
 use Rattle.service_disk.specs.Resolving.{is_doubtful, rows_resolved}
 use Rattle.stem_choice.specs.Choice.{chosen}
 use Rattle.stem_choice.specs.UsedStems.{with_stem}
+use Rattle.service_prompts.specs.Announcing.{announced, closing_signals}
 use Rattle.service_prompts.specs.Prompting.{ask_sent, asks_sent, completed_sent}
 use Rattle.service_prompts.specs.service_tables.specs.Reading.{asked_collections, asked_prompts, item_secret, secret_of}
 use Rattle.service_prompts.specs.service_tables.specs.Storing.{Brought, change_of, rows_erased, rows_stored, storable_edit}
@@ -35,9 +38,10 @@ use Rattle.service_prompts.specs.service_tables.specs.declared.fate.ReadFate.{Re
 use Rattle.service_prompts.specs.service_tables.specs.declared.fate.ReadFate.TheVariants as read
 use Rattle.service_prompts.specs.service_tables.specs.declared.fate.StoreFate.{StoreFate}
 use Rattle.service_prompts.specs.service_tables.specs.declared.fate.StoreFate.TheVariants as stored
+use Rattle.service_events.specs.Announced.{demand_signals, reading_signals, unlock_signals}
 use Rattle.service_events.specs.PublicBody.{body_with}
 use Rattle.service_events.specs.PromptCalls.{go_on_sent, gone_on}
-use Rattle.service_events.specs.Plan.{SessionQuestions, KeyTerms, FileQuestions, Questions, Demand, Store, Erase, Set_alias, Make, Reading, Aliases_file, Collection_file, Change, Open_session, Close_session, Lock_collection, Begin_prompt, Ask_prompt, Derive_key, Count_wrong, Clear_wrong, Go_on, End_prompt, Become_agent, Leave_agent, Gift, Secret_of, Secrets_of, Answer, Returns, Gives, Refuses, Plan, Ends, Asks, Resolves, Opens}
+use Rattle.service_events.specs.Plan.{SessionQuestions, KeyTerms, FileQuestions, Questions, Demand, Store, Erase, Set_alias, Make, Rekey, Reading, Aliases_file, Collection_file, Change, Open_session, Close_session, Lock_collection, Begin_prompt, Ask_prompt, Derive_key, Count_wrong, Clear_wrong, Go_on, End_prompt, Become_agent, Leave_agent, Gift, Secret_of, Secrets_of, Answer, Returns, Gives, Refuses, Plan, Ends, Asks, Resolves, Opens}
 use Rattle.service_prompts.specs.service_tables.specs.State.{State}
 
 -- ---- what is asked
@@ -64,6 +68,7 @@ asked_files brought state = record {
   opening = λ terms stem. opening_of (key_with brought terms) stem state.collections;
   stem_for = λ label. chosen label state.used;
   has_room = λ terms label. making.has_room (made_of brought terms label) state.collections;
+  can_rekey = λ terms stem. rekeying.can_rekey (key_with brought terms) brought.now stem state.collections;
 }
 
 -- the answers to a caller's questions, for an event that brings this
@@ -99,11 +104,12 @@ abbrev pub performed_all : ConnId → List Change → State → State
 performed_all caller [] state = state
 performed_all caller (change ∷ changes) state = performed_all caller changes (performed caller change state)
 
--- what a change sends besides the reply: Ask to the agent, for each prompt that is asked by it, and Completed to the owner of a prompt that ends
+-- what a change sends besides the reply: to everyone that a collection is locked; Ask to the agent, for each prompt that is asked by it; and
+-- Completed to the owner of a prompt that ends
 abbrev pub sent_by : ConnId → Change → State → List Sent
 sent_by caller Open_session state = []
 sent_by caller (Close_session session) state = []
-sent_by caller (Lock_collection stem) state = []
+sent_by caller (Lock_collection stem) state = announced (closing_signals stem state.collections)
 sent_by caller (Begin_prompt kind) state = []
 sent_by caller (Ask_prompt prompt) state = ask_sent prompt (asked_again prompt state.prompts) state.collections
 sent_by caller (Derive_key prompt round) state = []
@@ -127,6 +133,7 @@ rows_asked brought (Store stem edit) fate rows = rows_stored stem (change_of bro
 rows_asked brought (Erase stem) fate rows = rows_erased stem fate rows
 rows_asked brought (Set_alias alias stem) fate rows = rows
 rows_asked brought (Make stem label terms) fate rows = making.rows_made stem (made_of brought terms label) fate rows
+rows_asked brought (Rekey stem terms) fate rows = rows_rekeyed stem (key_with brought terms) brought.now fate rows
 
 -- the aliases after it
 abbrev pub aliases_asked : Demand → StoreFate → Contents → Option AliasRows
@@ -134,6 +141,7 @@ aliases_asked (Store stem edit) fate contents = contents.aliases
 aliases_asked (Erase stem) fate contents = contents.aliases
 aliases_asked (Set_alias alias stem) fate contents = aliases_set alias stem fate contents
 aliases_asked (Make stem label terms) fate contents = contents.aliases
+aliases_asked (Rekey stem terms) fate contents = contents.aliases
 
 -- the used stems after it: once a collection was to be made under a stem, it is used, however that ended
 abbrev pub used_asked : Demand → List (List ℕ) → List (List ℕ)
@@ -141,6 +149,7 @@ used_asked (Store stem edit) used = used
 used_asked (Erase stem) used = used
 used_asked (Set_alias alias stem) used = used
 used_asked (Make stem label terms) used = with_stem stem used
+used_asked (Rekey stem terms) used = used
 
 -- the state after it
 abbrev pub demanded : Brought → Demand → StoreFate → State → State
@@ -150,9 +159,9 @@ demanded brought demand fate state = record state {
   used = used_asked demand state.used;
 }
 
--- what that sends: nothing, since no signal tells of what is stored
+-- what that sends
 abbrev pub sent_asked : Brought → Demand → StoreFate → State → List Sent
-sent_asked brought demand fate state = []
+sent_asked brought demand fate state = announced (demand_signals brought demand fate state.collections)
 
 -- ---- what is read again
 
@@ -166,9 +175,9 @@ abbrev pub settled : Reading → ReadFate → State → State
 settled Aliases_file fate state = record state { aliases = aliases_resolved fate state.aliases }
 settled (Collection_file stem) fate state = record state { collections = rows_resolved stem fate state.collections }
 
--- what that sends: nothing, since no signal tells of what is read again
+-- what that sends
 abbrev pub sent_settled : Reading → ReadFate → State → List Sent
-sent_settled reading fate state = []
+sent_settled reading fate state = announced (reading_signals reading fate state.collections)
 
 -- one thing if the file couldn't be read, and the other if it was
 abbrev pub by_reading {ℓ} : {A : Type ℓ} → ReadFate → A → A → A
@@ -183,9 +192,9 @@ by_reading read.Other unread known = known
 abbrev pub unlocked_with : Brought → List ℕ → KeyTerms → State → State
 unlocked_with brought stem terms state = record state { collections = rows_opened (key_with brought terms) stem state.collections }
 
--- what that sends: nothing, since no signal tells of what is unlocked
+-- what that sends
 abbrev pub sent_opened : Brought → List ℕ → KeyTerms → State → List Sent
-sent_opened brought stem terms state = []
+sent_opened brought stem terms state = announced (unlock_signals (key_with brought terms) stem state.collections)
 
 -- ---- what is answered
 
@@ -194,7 +203,7 @@ abbrev pub secret_returned : Option ReturnedSecret → Result Body ErrorName
 secret_returned None = Err name.NoSuchObject
 secret_returned (Some secret) = Ok (body.Secret secret)
 
--- what is given of an item; IsLocked if its collection is locked, of which no secret is shown in any case
+-- what is given of an item; IsLocked if its collection is locked, since no secret of such a collection is shown
 abbrev pub given_if_open : State → List ℕ → Option ReturnedSecret → Result Body ErrorName
 given_if_open state stem secret = if is_open stem state.collections then secret_returned secret else Err name.IsLocked
 
@@ -263,7 +272,7 @@ by_test false one other = other
 abbrev pub if_fits {ℓ} : {A : Type ℓ} → Result Body ErrorName → A → A → A
 if_fits answer done large = by_test (fits answer) done large
 
--- by how the first of these fates ended, if it is a storing; otherwise `none`
+-- by the first of these fates, if it is that of a file that was to be stored; otherwise `none`
 abbrev pub by_store {ℓ} : {A : Type ℓ} → A → (StoreFate → List Fate → A) → List Fate → A
 by_store none next [] = none
 by_store none next (fate.Store ended ∷ fates) = next ended fates

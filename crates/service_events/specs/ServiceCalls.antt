@@ -2,7 +2,7 @@
 -- "org.freedesktop.Secret.Service"). The refusals are in their order.
 use Rattle.std.specs.Prelude.{ℕ, Bool, true, if◌then◌else◌, nat_le, List, [], ◌∷◌, codes, filter, map, nat_eq, Option, Some, None}
 use Rattle.std.specs.Cmp.Lexicographic.{pointwise}
-use Rattle.std.specs.List.{filter_map}
+use Rattle.std.specs.List.{filter_map, fold}
 use Rattle.std.specs.Option.{option_and_then, option_map_or}
 use Rattle.kr_base.specs.declared.attributes.AttrValue.{AttrValue}
 use Rattle.kr_base.specs.declared.ids.PromptId.{PromptId}
@@ -15,6 +15,7 @@ use Rattle.prompt_state.specs.declared.row.PromptKind.{PromptKind}
 use Rattle.prompt_state.specs.declared.row.PromptKind.TheVariants as kind
 use Rattle.prompt_state.specs.declared.targets.Target.{Target}
 use Rattle.prompt_state.specs.Targets.{all_left}
+use Rattle.stem_choice.specs.UsedStems.{with_stem}
 use Rattle.service_events.specs.PublicBody.{PublicBody}
 use Rattle.service_events.specs.PublicBody as public
 use Rattle.service_prompts.specs.secret_calls.specs.declared.out.ErrorName.TheVariants as name
@@ -41,9 +42,13 @@ open_session algorithm asked =
 abbrev pub search_items : List (List ℕ × AttrValue) → Questions → Plan
 search_items wanted asked = answered (public.Found (unlocked_paths (asked.collections.found wanted)) (locked_paths (asked.collections.found wanted))) []
 
--- the changes that lock the collections of these objects
+-- these stems in byte order, each once
+abbrev pub in_order : List (List ℕ) → List (List ℕ)
+in_order stems = fold (λ listed stem. with_stem stem listed) [] stems
+
+-- the changes that lock the collections of these objects, in byte order of their stems
 abbrev pub locks : List ObjectName → Questions → List Change
-locks objects asked = map Lock_collection (filter_map (collection_around asked.collections) objects)
+locks objects asked = map Lock_collection (in_order (filter_map (collection_around asked.collections) objects))
 
 -- Lock: the objects that are there, whose collections are locked
 abbrev pub lock : List ObjectName → Questions → Plan

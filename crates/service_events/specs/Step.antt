@@ -28,7 +28,7 @@ use Rattle.prompt_state.specs.declared.row.PromptRow.{PromptRow}
 use Rattle.prompt_state.specs.declared.targets.Target.{Target}
 use Rattle.replace_slot.specs.Cell.{File, new_image, old_image}
 use Rattle.session_table.specs.Sessions.{abandoned}
-use Rattle.service_prompts.specs.service_tables.specs.declared.rows.ConnRow.{ConnRow}
+use Rattle.service_prompts.specs.service_tables.specs.signal_fanout.specs.declared.rows.ConnRow.{ConnRow}
 use Rattle.service_prompts.specs.service_tables.specs.Storing.{Add_item, Brought}
 use Rattle.service_prompts.specs.service_tables.specs.Sound.{AreAttributeTypes, AreItemTypes, AreSecretTypes, IsTypedAlias, IsTypedText}
 use Rattle.service_events.specs.declared.event.Arrival.{Arrival}
@@ -46,6 +46,7 @@ use Rattle.service_events.specs.CollectionCalls.{search_collection, create_item,
 use Rattle.service_prompts.specs.service_tables.specs.Connections.{joined, has, changed, without, left, emptied, waiting_for, desk_of, delivered}
 use Rattle.service_prompts.specs.service_tables.specs.Sent.{One, Sent}
 use Rattle.service_events.specs.ItemCalls.{get_secret, delete_item, set_secret}
+use Rattle.service_events.specs.KeyringCalls.{change_password}
 use Rattle.service_prompts.specs.service_tables.specs.Limits.{most_connections, last_connection}
 use Rattle.service_events.specs.Plan.{KeyTerms, Questions, Plan, refused}
 use Rattle.service_events.specs.PromptCalls.{call_prompt, dismiss}
@@ -59,7 +60,7 @@ use Rattle.service_prompts.specs.service_tables.specs.State.{State}
 abbrev pub with_rows : List ConnRow → State → State
 with_rows rows state = record state { connections = record state.connections { rows = rows } }
 
--- the table of calls: one row for each. A prompt that creates a collection keeps the salt that comes with the request.
+-- the table of calls: one row for each. A prompt that creates a collection, or changes a password, keeps the salt that comes with the request.
 abbrev pub row_of : List ℕ → Call → Questions → Plan
 row_of salt call.Ping asked = ping asked
 row_of salt (call.OpenSession algorithm) asked = open_session algorithm asked
@@ -75,6 +76,7 @@ row_of salt (call.SearchCollection collection wanted) asked = search_collection 
 row_of salt (call.CreateItem collection label attributes secret replace) asked =
     create_item collection (Add_item label attributes secret.content replace) secret.session secret.content asked
 row_of salt (call.DeleteCollection collection) asked = delete_collection collection asked
+row_of salt (call.ChangePassword collection) asked = change_password collection salt asked
 row_of salt (call.DeleteItem stem item) asked = delete_item stem item asked
 row_of salt (call.GetSecret stem item session) asked = get_secret stem item session asked
 row_of salt (call.SetSecret stem item secret) asked = set_secret stem item secret.session secret.content asked
@@ -127,7 +129,7 @@ served came state = ran came.arrival.conn (brought_by came.arrival) (plan_of cam
 
 -- ---- the work of an answer
 
--- the terms of the key of a new collection: the salt that its prompt keeps
+-- the terms of the key of a new password: the salt that its prompt keeps
 abbrev pub new_terms : List ℕ → KeyTerms
 new_terms salt = record { salt = salt; iterations = new_iterations }
 
@@ -139,8 +141,9 @@ file_terms row = record { salt = row.clear.salt; iterations = row.clear.iteratio
 abbrev pub terms_for : Rows → PromptKind → Option KeyTerms
 terms_for rows (kind.Unlock targets) = option_and_then (λ (target : Target). option_map file_terms (value_at target.stem rows)) (first_left targets)
 terms_for rows (kind.Create label alias salt) = Some (new_terms salt)
+terms_for rows (kind.Change stem salt) = Some (new_terms salt)
 
--- the same of a prompt, if it is there
+-- the same for a prompt, if it is there
 abbrev pub row_terms : Rows → Option PromptRow → Option KeyTerms
 row_terms rows None = None
 row_terms rows (Some row) = terms_for rows row.kind
@@ -279,7 +282,7 @@ pub record FitsRequest (came : Recorded) (state : State) : Type 0 where
 abbrev pub AreByteImages : File → Type 0
 AreByteImages file = IfSome (old_image file) IsBytes × IfSome (new_image file) IsBytes
 
--- the same of the file of each collection
+-- the same for the file of each collection
 abbrev pub AreByteFiles : Rows → Type 0
 AreByteFiles rows = AllByRecursion (λ (row : List ℕ × CollectionRow). AreByteImages row.1.file) rows
 
@@ -307,6 +310,7 @@ TakesMoment _ = ⊥
 -- what a call leads to depends on its salt: a prompt keeps it
 abbrev pub TakesSalt : Result Call CallFault → Type 0
 TakesSalt (Ok (call.CreateCollection label alias)) = Unit {0}
+TakesSalt (Ok (call.ChangePassword collection)) = Unit {0}
 TakesSalt _ = ⊥
 
 -- Two requests that differ in nothing on which their steps depend, except in how each storing ends.

@@ -21,7 +21,7 @@ use Rattle.service_events.specs.declared.event.Event.{Event}
 use Rattle.service_events.specs.declared.event.Event.TheVariants as event
 use Rattle.service_events.specs.declared.event.Incoming.{Incoming}
 use Rattle.service_events.specs.declared.event.Incoming.TheVariants as incoming
-use Rattle.service_events.specs.Plan.{Plan, Ends, Asks, Resolves, Opens, Demand, Store, Erase, Set_alias, Make, Reading, Aliases_file, Collection_file, Questions}
+use Rattle.service_events.specs.Plan.{Plan, Ends, Asks, Resolves, Opens, Demand, Store, Erase, Set_alias, Make, Rekey, Reading, Aliases_file, Collection_file, Questions}
 use Rattle.service_events.specs.Run.{asked, by_read, by_reading, by_store, by_test, demanded, if_fits, is_in_doubt, promised, settled, unlocked_with}
 use Rattle.service_events.specs.Derivation.{derived}
 use Rattle.service_events.specs.Step.{brought_by, brought_derived, plan_of, terms_of}
@@ -59,7 +59,7 @@ module _ {F S : Type 0} (folder_honest folder_steady : F → Bool) (folder_fault
   abbrev pub KeepsSlotOrAll : Plan → DiskState F S → DiskState F S → Type 0
   KeepsSlotOrAll plan old new = (new ≡ old) ⊎ KeepsSlotOf plan old new
 
-  -- the same of what a key leads to that is brought: a slot is made only for a prompt that waits for the key and creates a collection
+  -- the same for what a key leads to that is brought: a slot is made only for a prompt that waits for the key and creates a collection
   abbrev pub KeepsMaking : BroughtKey → State → DiskState F S → DiskState F S → Type 0
   KeepsMaking brought state old new = KeepsSlotOrAll (plan_brought brought state) old new
 
@@ -78,6 +78,7 @@ module _ {F S : Type 0} (folder_honest folder_steady : F → Bool) (folder_fault
   StoresDemand (Set_alias alias stem) ended before after old new = StoresAliases is_honest is_steady faults moment left_since may_leave (fate.Store ended) before.aliases after.aliases old new
   StoresDemand (Make stem label terms) ended before after old new =
       MakesAt folder_honest folder_steady folder_faults images folder_leaves names_made is_honest is_steady faults moment left_since may_leave stem ended before.collections after.collections old new
+  StoresDemand (Rekey stem terms) ended before after old new = StoresAt is_honest is_steady faults moment left_since may_leave stem (fate.Store ended) before.collections after.collections old new
 
   -- a file that is read again, which ended so: its slot is used, and no other
   abbrev pub StoresReading : Reading → ReadFate → Contents → Contents → DiskState F S → DiskState F S → Type 0
@@ -105,7 +106,7 @@ module _ {F S : Type 0} (folder_honest folder_steady : F → Bool) (folder_fault
       (StoresOf caller brought (next (asked caller brought state)) fates state old new)
   StoresOf caller brought (Opens stem terms next) fates state old new = StoresOf caller brought next fates (unlocked_with brought stem terms state) old new
 
-  -- the same of a row of the table of calls
+  -- the same for a row of the table of calls
   abbrev pub StoresRow : ConnId → Brought → (Questions → Plan) → List Fate → State → DiskState F S → DiskState F S → Type 0
   StoresRow caller brought row fates state old new = StoresOf caller brought (row (asked caller brought state)) fates state old new
 

@@ -4,8 +4,8 @@ ghost use Rattle.service_events.specs.Fates.{reads_of, stores_of};
 use service_prompts::service_tables::{ReadFate, StoreFate};
 use std::marker::Model;
 
-/// How each storing, removal and resolve of a file ended that an event led to, in order: at most the
-/// making of a collection, then a resolve, then a storing or a removal. A contract sees the list of them. It
+/// How each storing, removal and resolve of a file ended that an event led to, in order: at most
+/// making a collection, then a resolve, then storing or removing a file. A contract sees the list of them. It
 /// takes no memory of its own.
 #[derive(Drop)]
 pub struct Fates {
@@ -25,7 +25,7 @@ impl Model for Fates {
     ghost view = { λ f. stores_of f.made ++ (reads_of f.read ++ stores_of f.stored) };
 }
 
-// How many storings there are.
+// How many files were stored or removed.
 fn stores(fate: Option<StoreFate>) -> usize
     ensures { result ≡ length (stores_of fate) }
 {
@@ -57,7 +57,7 @@ impl Fates {
         }
     }
 
-    /// How the making of a collection, a resolve, and a storing or a removal ended, as far as they were asked for.
+    /// How each of these ended that was asked for: making a collection, a resolve, and storing or removing a file.
     pub fn of(made: Option<StoreFate>, read: Option<ReadFate>, stored: Option<StoreFate>) -> Fates
         ensures { result ≡ stores_of made ++ (reads_of read ++ stores_of stored) }
     {

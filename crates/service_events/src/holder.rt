@@ -1,6 +1,6 @@
 use kr_base::{ItemId, Stem};
 
-/// An object that is there, by what its properties are read of.
+/// An existing object, by where its properties are read.
 #[derive(Drop)]
 pub enum Holder {
     /// The service.

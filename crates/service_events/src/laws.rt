@@ -25,8 +25,9 @@ pub fn steps_keep_the_rows_sound()
         → IsSound (replay state events) }
 {}
 
-/// What an event puts out has a spelling, and is small enough to wait for a connection for which nothing
-/// waits: so a reply is lost only where others wait before it.
+/// What an event puts out for one connection has a spelling, and is small enough to wait for a connection
+/// for which nothing waits: so a reply is lost only where others wait before it. A signal to everyone has a
+/// spelling unless it is too long to wait.
 #[tactic(auto, using(crate::proofs::SoundLemmas::waits_step))]
 pub fn outputs_can_wait()
     ensures { (state : State) (event : Event) → IsSound state → Fits state event
