@@ -1,6 +1,6 @@
 -- Ask goes to the agent that is there after the event: a change sends it to the agent that is there after the change, and nothing but the last change of a row
 -- sends it or changes who is the agent.
-use Rattle.std.proofs.Common.{◌≡◌, ⊎_elim, ℕ, Bool, true, false, cond, IfSome, List, [], ◌∷◌, Option, Some, None, Result, Ok, Err, refl, sym, ap, subst, Contains}
+use Rattle.std.proofs.Common.{◌≡◌, ⊎_elim, ℕ, Bool, true, false, cond, IfSome, List, [], ◌∷◌, ◌++◌, Option, Some, None, Result, Ok, Err, refl, ap, Contains}
 use Rattle.std.specs.List.{AllByRecursion, cons_option, filter_map}
 use Rattle.std.specs.Option.{option_and_then, option_map}
 use Rattle.std.proofs.lemmas.List.Elements.{All-contains, All-from_recursion}
@@ -19,6 +19,7 @@ use Rattle.service_events.specs.secret_calls.specs.declared.out.ErrorName.{Error
 use Rattle.service_events.specs.secret_calls.specs.declared.out.Out.TheVariants as out
 use Rattle.service_events.specs.secret_calls.specs.declared.signal.AskKind.{AskKind}
 use Rattle.service_events.specs.secret_calls.specs.declared.signal.Signal.TheVariants as signal
+use Rattle.service_events.specs.service_prompts.specs.Announcing.{announced, closing_signals}
 use Rattle.service_events.specs.service_prompts.specs.Prompting.{ask_signal, ask_signal_in, completed_signal}
 use Rattle.service_events.specs.service_tables.specs.Opened.{contents_of}
 use Rattle.service_events.specs.service_tables.specs.Questions.{CollectionQuestions}
@@ -32,13 +33,15 @@ use Rattle.service_events.specs.Derivation.{derived}
 use Rattle.service_events.specs.Plan.{Returns, Change, Open_session, Close_session, Lock_collection, Begin_prompt, Ask_prompt, Derive_key, Count_wrong, Clear_wrong, Go_on, End_prompt, Become_agent, Leave_agent, Plan}
 use Rattle.service_events.specs.PromptCalls.{asks_for, completes, go_on_sent, is_over, is_over_row, passed_kind, passed_over}
 use Rattle.service_events.specs.PublicBody as public
-use Rattle.service_events.specs.Run.{asked, performed, performed_all, run, sent_by}
+use Rattle.service_events.specs.Run.{asked, performed, performed_all, run, sent_all, sent_asked, sent_by, sent_opened, sent_settled}
 use Rattle.service_events.specs.Step.{brought_by, brought_derived, message_of, puts_out, replies, served, step, terms_of}
 use Rattle.service_events.specs.declared.event.Event.{Event}
 use Rattle.service_events.specs.declared.event.Event.TheVariants as event
+use Rattle.service_events.proofs.AnnouncedLemmas.{AreAnnounced, asked-announced, closing-announced, opened-announced, settled-announced}
 use Rattle.service_events.proofs.EndLemmas.{AllEnds, AreInTurn, AreQuiet, IsAny, IsEnd, call-in-turn, ends-run, in-turn, key-in-turn, quiet-all}
 use Rattle.service_events.proofs.RunLemmas.{plan_for}
 use Rattle.machine_laws.specs.Asks.{AreForAgent, IsAgent, is_ask}
+use Rattle.machine_laws.proofs.AnnouncedLemmas.{announced-for}
 
 -- ---- what is sent
 
@@ -94,7 +97,7 @@ go_on-for questions collections agent (Some row) =
     let kind = passed_kind questions row.kind in
     let more : (o : Option ConnId) → AreForAgent o (asks_for collections row kind o) = elim [ None ↦ tt | Some conn ↦ (λ its. refl, tt) ] in
     let pass : (b : Bool) → AreForAgent agent (cond b (completes row kind) (asks_for collections row kind agent)) = elim [ true ↦ (λ its. not-ask its, tt) | false ↦ more agent ] in
-    pass (is_over kind)
+    pass (is_over questions kind)
 
 -- ---- changes
 
@@ -108,7 +111,7 @@ sent-for caller (Go_on prompt) state =
     let over = passed_over prompt asks state.prompts in
     let sent = go_on-for asks state.collections state.prompts.agent (row_at prompt state.prompts) in
     let pass : (b : Bool) → AreForAgent (cond b (ended prompt over) (asked_again prompt over)).agent (go_on_sent asks state.collections state.prompts.agent (row_at prompt state.prompts)) = elim [ true ↦ sent | false ↦ sent ] in
-    pass (is_over_row (row_at prompt over))
+    pass (is_over_row asks (row_at prompt over))
 sent-for caller (End_prompt prompt dismissed created) state = ended-for state.prompts.agent dismissed created (row_at prompt state.prompts)
 sent-for caller Become_agent state =
     let after = registered caller state.prompts in
@@ -116,13 +119,17 @@ sent-for caller Become_agent state =
 sent-for caller Leave_agent state = tt
 sent-for caller Open_session state = tt
 sent-for caller (Close_session session) state = tt
-sent-for caller (Lock_collection stem) state = tt
+sent-for caller (Lock_collection stem) state = announced-for state.prompts.agent (announced (closing_signals stem state.collections)) (closing-announced stem state.collections)
 sent-for caller (Begin_prompt kind) state = tt
 sent-for caller (Derive_key prompt round) state = tt
 sent-for caller (Count_wrong prompt) state = tt
 sent-for caller (Clear_wrong prompt) state = tt
 
 -- ---- plans
+
+-- what is sent to everyone before it isn't Ask
+after-all : (agent : Option ConnId) (said sent : List Sent) → AreAnnounced said → AreForAgent agent sent → AreForAgent agent (said ++ sent)
+after-all agent said sent are rest = each-append (λ (one : Sent). is_ask one.out ≡ true → IsAgent agent one.to) said sent (announced-for agent said are) rest
 
 -- Ask for the agent that is there after a plan, of whose changes the last one alone may send it or change who is the agent
 run-for : (caller : ConnId) (brought : Brought) (plan : Plan) (fates : List Fate) (state : State) → AllEnds (IsEnd true (AreInTurn IsAny)) plan
@@ -132,14 +139,14 @@ run-for caller brought =
     ends-run (IsEnd true (AreInTurn IsAny)) caller brought (λ before ran. AreForAgent ran.state.prompts.agent ran.sends)
     (record {
       ends = λ answer changes state is. ⊎_elim
-          (λ (quiet : AreQuiet changes). subst (AreForAgent (performed_all caller changes state).prompts.agent) (sym (quiet-all caller changes state quiet)) tt)
+          (λ (quiet : AreQuiet changes). announced-for (performed_all caller changes state).prompts.agent (sent_all caller changes state) (quiet-all caller changes state quiet))
           (λ (turn : (answer ≡ Returns public.Empty) × AreInTurn IsAny changes).
-          in-turn caller IsAny IsFor (λ change state sent new quiet rest. rest) (λ change state any. sent-for caller change state) changes state turn.1)
+          in-turn caller IsAny IsFor (λ change state said sent new quiet are rest. after-all new.prompts.agent said sent are rest) (λ change state any. sent-for caller change state) changes state turn.1)
           is.1;
       fails = λ name state. tt;
-      asks = λ demand ended state ran is. is;
-      settles = λ reading ended state ran is. is;
-      opens = λ stem terms state ran is. is;
+      asks = λ demand ended state ran is. after-all ran.state.prompts.agent (sent_asked brought demand ended state) ran.sends (asked-announced brought demand ended state) is;
+      settles = λ reading ended state ran is. after-all ran.state.prompts.agent (sent_settled reading ended state) ran.sends (settled-announced reading ended state) is;
+      opens = λ stem terms state ran is. after-all ran.state.prompts.agent (sent_opened brought stem terms state) ran.sends (opened-announced brought stem terms state) is;
     })
 
 -- ---- events

@@ -30,12 +30,12 @@ use Rattle.service_events.specs.Derivation.{derived}
 use Rattle.service_events.specs.Plan.{Returns, Change, Open_session, Close_session, Lock_collection, Begin_prompt, Ask_prompt, Derive_key, Count_wrong, Clear_wrong, Go_on, End_prompt, Become_agent, Leave_agent, Plan}
 use Rattle.service_events.specs.PromptCalls.{asks_for, completes, go_on_sent, gone_on, is_over_row, passed_kind, passed_over, passed_row}
 use Rattle.service_events.specs.PublicBody as public
-use Rattle.service_events.specs.Run.{asked, performed, performed_all, run, sent_by}
+use Rattle.service_events.specs.Run.{asked, performed, performed_all, run, sent_asked, sent_by, sent_opened, sent_settled}
 use Rattle.service_events.specs.Step.{brought_by, brought_derived, puts_out, replies, served, step, terms_of}
 use Rattle.service_events.specs.declared.event.Event.{Event}
 use Rattle.service_events.specs.declared.event.Event.TheVariants as event
 use Rattle.service_events.proofs.AdvanceLemmas.{row-changed, row-number}
-use Rattle.service_events.proofs.EndLemmas.{AllEnds, AreInTurn, AreQuiet, IsAny, IsEnd, IsQuiet, call-in-turn, ends-run, in-turn, key-in-turn, prompts-settled, quiet-all}
+use Rattle.service_events.proofs.EndLemmas.{AllEnds, AreInTurn, AreQuiet, IsAny, IsEnd, IsQuiet, call-in-turn, ends-run, in-turn, key-in-turn, prompts-settled}
 use Rattle.service_events.proofs.RunLemmas.{plan_for}
 use Rattle.machine_laws.specs.Asks.{asks_in, asks_of, is_asked, is_asked_row}
 
@@ -255,7 +255,7 @@ gone-told p r prompt asks collections agent prompts is =
     let sent = go_on_sent asks collections prompts.agent (row_at prompt prompts) in
     let passed = keep-told p r [] prompt (passed_row asks) (λ row. refl) (λ row. refl) prompts in
     let same-row = row-changed prompt (passed_row asks) prompts (λ row. refl) in
-    let says : (o : Option PromptRow) → row_at prompt prompts ≡ o → is_over_row (option_map (passed_row asks) o) ≡ false → (row : PromptRow) → option_map (passed_row asks) o ≡ Some row
+    let says : (o : Option PromptRow) → row_at prompt prompts ≡ o → is_over_row asks (option_map (passed_row asks) o) ≡ false → (row : PromptRow) → option_map (passed_row asks) o ≡ Some row
     → count-of (nat_eq (round_of row.stage + 1) r) ≤ asks_in prompt r (go_on_sent asks collections prompts.agent o) =
     elim [
       | None ↦ λ at_none off row found. absurd (let no : None ≡ Some row = found in cc)
@@ -269,14 +269,14 @@ gone-told p r prompt asks collections agent prompts is =
           let round : count-of (nat_eq (round_of was.stage + 1) r) ≡ count-of (nat_eq (round_of row.stage + 1) r) = ap (λ (x : PromptRow). count-of (nat_eq (round_of x.stage + 1) r)) same in
           omega (arith, put, told, round)
     ] in
-    let pass : (b : Bool) → is_over_row (row_at prompt after) ≡ b → row-now r (row_at p (cond b (ended prompt after) (asked_again prompt after))) ≤ row-now r (row_at p prompts) + asks_in p r sent =
+    let pass : (b : Bool) → is_over_row asks (row_at prompt after) ≡ b → row-now r (row_at p (cond b (ended prompt after) (asked_again prompt after))) ≤ row-now r (row_at p prompts) + asks_in p r sent =
     elim [
       | true ↦ λ over. let fewer = ended-row p prompt r after.rows in omega (arith, passed, fewer)
       | false ↦ λ off.
-          let told = again-told p r sent prompt after (λ row found. says (row_at prompt prompts) refl (sym (ap is_over_row same-row) ∙ off) row (sym same-row ∙ found)) in
+          let told = again-told p r sent prompt after (λ row found. says (row_at prompt prompts) refl (sym (ap (is_over_row asks) same-row) ∙ off) row (sym same-row ∙ found)) in
           omega (arith, passed, told)
     ] in
-    pass (is_over_row (row_at prompt after)) refl
+    pass (is_over_row asks (row_at prompt after)) refl
 
 -- ---- changes and plans
 
@@ -304,7 +304,7 @@ module _ (p : PromptId) (r : ℕ) (caller : ConnId) where
   performed-told : (agent : ConnId) (change : Change) (state : State) → (performed caller change state).prompts.agent ≡ Some agent → IsTold p r (sent_by caller change state) (performed caller change state).prompts state.prompts
   performed-told agent Open_session state is = quiet-told Open_session state tt
   performed-told agent (Close_session session) state is = quiet-told (Close_session session) state tt
-  performed-told agent (Lock_collection stem) state is = quiet-told (Lock_collection stem) state tt
+  performed-told agent (Lock_collection stem) state is = omega arith
   performed-told agent (Begin_prompt kind) state is = quiet-told (Begin_prompt kind) state tt
   performed-told agent (Derive_key prompt round) state is = quiet-told (Derive_key prompt round) state tt
   performed-told agent (Count_wrong prompt) state is = quiet-told (Count_wrong prompt) state tt
@@ -314,7 +314,7 @@ module _ (p : PromptId) (r : ℕ) (caller : ConnId) where
   performed-told agent (Go_on prompt) state is =
       let over = passed_over prompt (asked_collections (contents_of state)) state.prompts in
       let pass : (b : Bool) → (cond b (ended prompt over) (asked_again prompt over)).agent ≡ Some agent → state.prompts.agent ≡ Some agent = elim [ true ↦ λ same. same | false ↦ λ same. same ] in
-      gone-told p r prompt (asked_collections (contents_of state)) state.collections agent state.prompts (pass (is_over_row (row_at prompt over)) is)
+      gone-told p r prompt (asked_collections (contents_of state)) state.collections agent state.prompts (pass (is_over_row (asked_collections (contents_of state)) (row_at prompt over)) is)
   performed-told agent (End_prompt prompt dismissed created) state is = let fewer = ended-row p prompt r state.prompts.rows in omega (arith, fewer)
   performed-told agent Become_agent state is = omega arith
   performed-told agent Leave_agent state is = absurd (let no : None ≡ Some agent = is in cc)
@@ -326,15 +326,18 @@ module _ (p : PromptId) (r : ℕ) (caller : ConnId) where
       ends-run (IsEnd true (AreInTurn IsAny)) caller brought (λ before ran. Tells before ran.sends ran.state)
       (record {
         ends = λ answer changes state is. ⊎_elim
-            (λ (quiet : AreQuiet changes) its. subst (λ sent. IsTold p r sent (performed_all caller changes state).prompts state.prompts) (sym (quiet-all caller changes state quiet)) (quiets-told changes state quiet))
+            (λ (quiet : AreQuiet changes) its. let told = quiets-told changes state quiet in omega (arith, told))
             (λ (turn : (answer ≡ Returns public.Empty) × AreInTurn IsAny changes).
-            in-turn caller IsAny Tells (λ change state sent new quiet rest its. let first = quiet-told change state quiet in let told = rest its in omega (arith, first, told))
+            in-turn caller IsAny Tells (λ change state said sent new quiet are rest its. let first = quiet-told change state quiet in let told = rest its in let both = asks-append p r said sent in omega (arith, first, told, both))
             (λ change state any. performed-told agent change state) changes state turn.1)
             is.1;
         fails = λ name state its. omega arith;
-        asks = λ demand ended state ran told. told;
-        settles = λ reading ended state ran told. subst (λ (q : Prompts). ran.state.prompts.agent ≡ Some agent → IsTold p r ran.sends ran.state.prompts q) (prompts-settled reading ended state) told;
-        opens = λ stem terms state ran told. told;
+        asks = λ demand ended state ran told its. let all = told its in let both = asks-append p r (sent_asked brought demand ended state) ran.sends in omega (arith, all, both);
+        settles = λ reading ended state ran told its.
+            let all = subst (λ (q : Prompts). IsTold p r ran.sends ran.state.prompts q) (prompts-settled reading ended state) (told its) in
+            let both = asks-append p r (sent_settled reading ended state) ran.sends in
+            omega (arith, all, both);
+        opens = λ stem terms state ran told its. let all = told its in let both = asks-append p r (sent_opened brought stem terms state) ran.sends in omega (arith, all, both);
       })
 
 -- ---- events

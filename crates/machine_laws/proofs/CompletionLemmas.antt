@@ -2,7 +2,7 @@
 -- is taken from what is left.
 use Rattle.std.proofs.Common.{◌≡◌, ℕ, ◌+◌, ◌<◌, ◌≤◌, Bool, true, false, cond, not, nat_eq, nat_le, List, [], ◌∷◌, ◌++◌, length, map, filter, find, Option, Some, None, Result, Ok, Err, refl, sym, ap, subst, ◌∙◌, arith}
 use Rattle.std.specs.List.{AllByRecursion, cons_option, filter_map}
-use Rattle.std.specs.Option.{option_and_then, option_map}
+use Rattle.std.specs.Option.{option_and_then, option_map, option_map_or}
 use Rattle.std.proofs.lemmas.Bool.Decides.{nat_tests}
 use Rattle.std.proofs.lemmas.List.{length-append}
 use Rattle.std.proofs.lemmas.List.Elements.{filter-append}
@@ -18,6 +18,7 @@ use Rattle.prompt_state.specs.declared.row.Stage.TheVariants.{Asked}
 use Rattle.service_events.specs.secret_calls.specs.declared.call.Request.{Request}
 use Rattle.service_events.specs.secret_calls.specs.declared.out.Body.{Body}
 use Rattle.service_events.specs.secret_calls.specs.declared.out.ErrorName.{ErrorName}
+use Rattle.service_events.specs.service_prompts.specs.Announcing.{announced, closing_signals}
 use Rattle.service_events.specs.service_prompts.specs.Prompting.{ask_sent, ask_signal, ask_signal_in, completed_sent, completed_signal}
 use Rattle.service_events.specs.service_tables.specs.Opened.{contents_of}
 use Rattle.service_events.specs.service_tables.specs.Questions.{CollectionQuestions}
@@ -29,17 +30,19 @@ use Rattle.service_events.specs.service_tables.specs.declared.fate.Fate.{Fate}
 use Rattle.service_events.specs.service_tables.specs.Sent.{One, Sent}
 use Rattle.service_events.specs.Derivation.{derived, row_derived}
 use Rattle.service_events.specs.Plan.{Change, Open_session, Close_session, Lock_collection, Begin_prompt, Ask_prompt, Derive_key, Count_wrong, Clear_wrong, Go_on, End_prompt, Become_agent, Leave_agent, Plan}
-use Rattle.service_events.specs.PromptCalls.{asks_for, completes as completed_for, go_on_sent, gone_on, is_over_row, passed_kind, passed_over, passed_row}
+use Rattle.service_events.specs.PromptCalls.{asks_for, completes as completed_for, go_on_sent, gone_on, is_given_up, is_over_row, passed_kind, passed_over, passed_row}
 use Rattle.service_events.specs.Replay.{replay}
-use Rattle.service_events.specs.Run.{asked, performed, performed_all, run, sent_all, sent_by}
+use Rattle.service_events.specs.Run.{asked, performed, performed_all, run, sent_all, sent_asked, sent_by, sent_opened, sent_settled}
 use Rattle.service_events.specs.Step.{brought_by, brought_derived, message_of, puts_out, replies, served, step, terms_of, with_delivered}
 use Rattle.service_events.specs.declared.event.Derivation.{Derivation}
 use Rattle.service_events.specs.declared.event.Event.{Event}
 use Rattle.service_events.specs.declared.event.Event.TheVariants as event
 use Rattle.service_events.proofs.AdvanceLemmas.{row-changed}
+use Rattle.service_events.proofs.AnnouncedLemmas.{AreAnnounced, asked-announced, closing-announced, opened-announced, settled-announced}
 use Rattle.service_events.proofs.EndLemmas.{prompts-settled}
 use Rattle.service_events.proofs.RunLemmas.{keeps-run, plan_for}
 use Rattle.machine_laws.specs.Completions.{completes, completions, completions_in, IsOver}
+use Rattle.machine_laws.proofs.AnnouncedLemmas.{announced-none}
 
 -- how many rows have the prompt's number
 abbrev count : PromptId → List PromptRow → ℕ
@@ -289,14 +292,19 @@ module _ (p prompt : PromptId) (asks : CollectionQuestions) (collections : Rows)
   asks-none : (row : PromptRow) (kind : PromptKind) (agent : Option ConnId) → completions_in p (asks_for collections row kind agent) ≡ 0
   asks-none row kind = elim [ None ↦ refl | Some agent ↦ refl ]
 
-  pub end-sends : (row : Option PromptRow) → is_over_row (option_map (passed_row asks) row) ≡ true
-      → go_on_sent asks collections prompts.agent row ≡ cons_option (option_map (λ (row : PromptRow). completed_signal false None (ended_row row)) (option_map (passed_row asks) row)) []
+  -- whether the prompt is dismissed if it ends
+  abbrev pub gives-up : Option PromptRow → Bool
+  gives-up row = option_map_or (λ (row : PromptRow). is_given_up row.kind) row false
+
+  pub end-sends : (row : Option PromptRow) → is_over_row asks (option_map (passed_row asks) row) ≡ true
+      → go_on_sent asks collections prompts.agent row
+      ≡ cons_option (option_map (λ (it : PromptRow). completed_signal (gives-up (option_map (passed_row asks) row)) None (ended_row it)) (option_map (passed_row asks) row)) []
   end-sends None is = refl
   end-sends (Some row) is =
       let kind = passed_kind asks row.kind in
       ap (λ b. cond b (completed_for row kind) (asks_for collections row kind prompts.agent)) is
 
-  pub ask-sends : (row : Option PromptRow) → is_over_row (option_map (passed_row asks) row) ≡ false → completions_in p (go_on_sent asks collections prompts.agent row) ≡ 0
+  pub ask-sends : (row : Option PromptRow) → is_over_row asks (option_map (passed_row asks) row) ≡ false → completions_in p (go_on_sent asks collections prompts.agent row) ≡ 0
   ask-sends None is = refl
   ask-sends (Some row) is =
       let kind = passed_kind asks row.kind in
@@ -307,28 +315,30 @@ module _ (p prompt : PromptId) (asks : CollectionQuestions) (collections : Rows)
       let row = row_at prompt prompts in
       let passed = changed-paid p [] refl prompt (passed_row asks) (λ row. refl) prompts few in
       let one : left p over ≤ 1 = omega (arith, passed, few) in
-      let pass : (b : Bool) → is_over_row (row_at prompt over) ≡ b
+      let pass : (b : Bool) → is_over_row asks (row_at prompt over) ≡ b
       → completions_in p (go_on_sent asks collections prompts.agent row) + left p (cond b (ended prompt over) (asked_again prompt over)) ≡ left p prompts =
       elim [
         | true ↦ λ is.
-            let same : go_on_sent asks collections prompts.agent row ≡ completed_sent prompt false None over =
-            end-sends row (sym (ap is_over_row row-passed) ∙ is) ∙ ap (λ o. cons_option (option_map (λ (row : PromptRow). completed_signal false None (ended_row row)) o) []) (sym row-passed) in
+            let up = gives-up (row_at prompt over) in
+            let same : go_on_sent asks collections prompts.agent row ≡ completed_sent prompt up None over =
+            end-sends row (sym (ap (is_over_row asks) row-passed) ∙ is)
+            ∙ ap (λ o. cons_option (option_map (λ (it : PromptRow). completed_signal (gives-up o) None (ended_row it)) o) []) (sym row-passed) in
             let told = ap (completions_in p) same in
-            let paid = ended-paid p prompt false None over one in
+            let paid = ended-paid p prompt up None over one in
             omega (arith, passed, told, paid)
         | false ↦ λ is.
-            let none = ask-sends row (sym (ap is_over_row row-passed) ∙ is) in
+            let none = ask-sends row (sym (ap (is_over_row asks) row-passed) ∙ is) in
             let paid = changed-paid p [] refl prompt (λ row. record row { stage = Asked (next_round (row_at prompt over)) }) (λ row. refl) over one in
             omega (arith, passed, none, paid)
       ] in
-      pass (is_over_row (row_at prompt over)) refl
+      pass (is_over_row asks (row_at prompt over)) refl
 
 -- ---- changes of the state
 
 performed-paid : (p : PromptId) (caller : ConnId) (change : Change) (state : State) → IsPaid p (sent_by caller change state) (performed caller change state).prompts state.prompts
 performed-paid p caller Open_session state = λ few. omega arith
 performed-paid p caller (Close_session session) state = λ few. omega arith
-performed-paid p caller (Lock_collection stem) state = λ few. omega arith
+performed-paid p caller (Lock_collection stem) state = λ few. let none = announced-none p (announced (closing_signals stem state.collections)) (closing-announced stem state.collections) in omega (arith, none)
 performed-paid p caller (Begin_prompt kind) state = begun-paid p caller kind state.prompts
 performed-paid p caller (Ask_prompt prompt) state =
     changed-paid p (ask_sent prompt (asked_again prompt state.prompts) state.collections) (ask-told p state.collections (asked_again prompt state.prompts) prompt) prompt _ (λ row. refl) state.prompts
@@ -354,6 +364,10 @@ all-paid p caller (change ∷ changes) state = λ few.
 
 -- ---- plans and events
 
+-- what is sent to everyone takes nothing from what is left
+announced-paid : (p : PromptId) (said sent : List Sent) (new old : Prompts) → AreAnnounced said → IsPaid p sent new old → IsPaid p (said ++ sent) new old
+announced-paid p said sent new old are paid = λ few. let none = announced-none p said are in let both = told-append p said sent in let rest = paid few in omega (arith, none, both, rest)
+
 run-paid : (p : PromptId) (caller : ConnId) (brought : Brought) (plan : Plan) (fates : List Fate) (state : State)
     → IsPaid p (run caller brought plan fates state).sends (run caller brought plan fates state).state.prompts state.prompts
 run-paid p caller brought =
@@ -361,9 +375,11 @@ run-paid p caller brought =
     (record {
       ends = λ answer changes state small. all-paid p caller changes state;
       fails = λ name state few. omega arith;
-      asks = λ demand ended state ran paid. paid;
-      settles = λ reading ended state ran paid. subst (IsPaid p ran.sends ran.state.prompts) (prompts-settled reading ended state) paid;
-      opens = λ stem terms state ran paid. paid;
+      asks = λ demand ended state ran paid. announced-paid p (sent_asked brought demand ended state) ran.sends ran.state.prompts state.prompts (asked-announced brought demand ended state) paid;
+      settles = λ reading ended state ran paid.
+          announced-paid p (sent_settled reading ended state) ran.sends ran.state.prompts state.prompts (settled-announced reading ended state)
+          (subst (IsPaid p ran.sends ran.state.prompts) (prompts-settled reading ended state) paid);
+      opens = λ stem terms state ran paid. announced-paid p (sent_opened brought stem terms state) ran.sends ran.state.prompts state.prompts (opened-announced brought stem terms state) paid;
     })
 
 -- a reply isn't Completed

@@ -9,7 +9,7 @@ use Rattle.service_events.specs.secret_calls.specs.Outs.{most_waiting}
 use Rattle.service_events.specs.service_tables.specs.Connections.{changed, delivered, emptied, given_out, is_row, left, new_row, size_of, size_waiting, waiting_for, with_out}
 use Rattle.service_events.specs.service_tables.specs.Opened.{Contents, opened_state}
 use Rattle.service_events.specs.service_tables.specs.State.{State}
-use Rattle.service_events.specs.service_tables.specs.declared.rows.ConnRow.{ConnRow}
+use Rattle.service_events.specs.service_tables.specs.signal_fanout.specs.declared.rows.ConnRow.{ConnRow}
 use Rattle.service_events.specs.service_tables.specs.declared.rows.ConnRows.{ConnRows}
 use Rattle.service_events.specs.service_tables.specs.Sent.{Sent, is_for}
 use Rattle.service_events.specs.service_tables.proofs.EachLemmas.{each-append, each-filter}

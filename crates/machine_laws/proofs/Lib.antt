@@ -1,7 +1,10 @@
 pub mod AgentLemmas
+pub mod AnnouncedLemmas
+pub mod AnnouncingLemmas
 pub mod AskedLemmas
 pub mod CompletionLemmas
 pub mod DeliveryLemmas
+pub mod HiddenLemmas
 pub mod OwnerLemmas
 pub mod SecretLemmas
 pub mod SignalLemmas

@@ -10,6 +10,7 @@ use Rattle.prompt_state.specs.Prompts.{AreRising, abandoned, asked_again, asks, 
 use Rattle.prompt_state.specs.declared.row.PromptKind.{PromptKind}
 use Rattle.prompt_state.specs.declared.row.PromptRow.{PromptRow}
 use Rattle.prompt_state.specs.declared.row.Prompts.{Prompts}
+use Rattle.service_events.specs.service_prompts.specs.Announcing.{announced, closing_signals}
 use Rattle.service_events.specs.service_prompts.specs.Prompting.{ask_sent, asks_sent, completed_sent, completed_signal}
 use Rattle.service_events.specs.service_prompts.proofs.SignalLemmas.{found-row}
 use Rattle.service_events.specs.service_tables.specs.Opened.{contents_of}
@@ -27,16 +28,18 @@ use Rattle.service_events.specs.service_tables.proofs.EachLemmas.{each-append, e
 use Rattle.service_events.specs.Derivation.{derived}
 use Rattle.service_events.specs.Plan.{Change, Open_session, Close_session, Lock_collection, Begin_prompt, Ask_prompt, Derive_key, Count_wrong, Clear_wrong, Go_on, End_prompt, Become_agent, Leave_agent, Plan}
 use Rattle.service_events.specs.PromptCalls.{go_on_sent, gone_on, is_over_row, passed_over, passed_row}
-use Rattle.service_events.specs.Run.{asked, performed, performed_all, run, sent_all, sent_by}
+use Rattle.service_events.specs.Run.{asked, performed, performed_all, run, sent_all, sent_asked, sent_by, sent_opened, sent_settled}
 use Rattle.service_events.specs.Step.{brought_by, brought_derived, finished, message_of, puts_out, replies, served, step, terms_of}
 use Rattle.service_events.specs.declared.event.Event.{Event}
 use Rattle.service_events.specs.declared.event.Event.TheVariants as event
 use Rattle.service_events.proofs.AdvanceLemmas.{row-number}
+use Rattle.service_events.proofs.AnnouncedLemmas.{AreAnnounced, asked-announced, closing-announced, opened-announced, settled-announced}
 use Rattle.service_events.proofs.EndLemmas.{prompts-settled}
 use Rattle.service_events.proofs.RunLemmas.{keeps-run, plan_for}
 use Rattle.machine_laws.specs.Completions.{AreFor, AreForOne, AreAllFor, IsOne, completes, completions_in}
+use Rattle.machine_laws.proofs.AnnouncedLemmas.{announced-none}
 use Rattle.machine_laws.proofs.SignalLemmas.{IsSignal, signal-run}
-use Rattle.machine_laws.proofs.CompletionLemmas.{ask-told, ask-sends, asks-told, end-sends, reply-told, row-passed}
+use Rattle.machine_laws.proofs.CompletionLemmas.{ask-told, ask-sends, asks-told, end-sends, gives-up, reply-told, row-passed}
 
 -- a row with the prompt's number is one of this owner
 abbrev IsRowOf : PromptId → ConnId → PromptRow → Type 0
@@ -159,26 +162,30 @@ module _ (p : PromptId) (owner : ConnId) where
       let over = passed_over prompt asks prompts in
       let passed : IsOwners p owner over = changed-of prompt (passed_row asks) (λ row. refl) (λ row. refl) prompts owned in
       let same = row-passed p prompt asks collections prompts in
-      let pass : (b : Bool) → is_over_row (row_at prompt over) ≡ b → IsKept p owner (go_on_sent asks collections prompts.agent row) (cond b (ended prompt over) (asked_again prompt over)) =
+      let pass : (b : Bool) → is_over_row asks (row_at prompt over) ≡ b → IsKept p owner (go_on_sent asks collections prompts.agent row) (cond b (ended prompt over) (asked_again prompt over)) =
       elim [
         | true ↦ λ is.
-            let sends : go_on_sent asks collections prompts.agent row ≡ completed_sent prompt false None over =
-            end-sends p prompt asks collections prompts row (sym (ap is_over_row same) ∙ is)
-            ∙ ap (λ o. cons_option (option_map (λ (row : PromptRow). completed_signal false None (ended_row row)) o) []) (sym same) in
-            record { to = subst (AreFor p owner) (sym sends) (end-to prompt false None over passed); owned = ended-of prompt over passed }
+            let up = gives-up p prompt asks collections prompts (row_at prompt over) in
+            let sends : go_on_sent asks collections prompts.agent row ≡ completed_sent prompt up None over =
+            end-sends p prompt asks collections prompts row (sym (ap (is_over_row asks) same) ∙ is)
+            ∙ ap (λ o. cons_option (option_map (λ (it : PromptRow). completed_signal (gives-up p prompt asks collections prompts o) None (ended_row it)) o) []) (sym same) in
+            record { to = subst (AreFor p owner) (sym sends) (end-to prompt up None over passed); owned = ended-of prompt over passed }
         | false ↦ λ is. record {
-          to = none-to _ (ask-sends p prompt asks collections prompts row (sym (ap is_over_row same) ∙ is));
+          to = none-to _ (ask-sends p prompt asks collections prompts row (sym (ap (is_over_row asks) same) ∙ is));
           owned = changed-of prompt _ (λ row. refl) (λ row. refl) over passed;
         }
       ] in
-      pass (is_over_row (row_at prompt over)) refl
+      pass (is_over_row asks (row_at prompt over)) refl
 
   -- ---- changes of the state
 
   performed-of : (caller : ConnId) (change : Change) (state : State) → IsOwners p owner state.prompts → IsKept p owner (sent_by caller change state) (performed caller change state).prompts
   performed-of caller Open_session state owned = record { to = tt; owned = owned }
   performed-of caller (Close_session session) state owned = record { to = tt; owned = owned }
-  performed-of caller (Lock_collection stem) state owned = record { to = tt; owned = owned }
+  performed-of caller (Lock_collection stem) state owned = record {
+    to = none-to (announced (closing_signals stem state.collections)) (announced-none p _ (closing-announced stem state.collections));
+    owned = owned;
+  }
   performed-of caller (Begin_prompt kind) state owned = record { to = tt; owned = begun-of caller kind state.prompts owned }
   performed-of caller (Ask_prompt prompt) state owned = record {
     to = none-to (ask_sent prompt (asked_again prompt state.prompts) state.collections) (ask-told p state.collections (asked_again prompt state.prompts) prompt);
@@ -209,6 +216,10 @@ module _ (p : PromptId) (owner : ConnId) where
 
   -- ---- plans and events
 
+  -- what is sent to everyone before it isn't Completed
+  announced-of : (said sent : List Sent) (new : Prompts) → AreAnnounced said → IsKept p owner sent new → IsKept p owner (said ++ sent) new
+  announced-of said sent new are kept = record { to = both-to said sent (none-to said (announced-none p said are)) kept.to; owned = kept.owned }
+
   run-of : (caller : ConnId) (brought : Brought) (plan : Plan) (fates : List Fate) (state : State) → IsOwners p owner state.prompts
       → IsKept p owner (run caller brought plan fates state).sends (run caller brought plan fates state).state.prompts
   run-of caller brought =
@@ -216,9 +227,11 @@ module _ (p : PromptId) (owner : ConnId) where
       (record {
         ends = λ answer changes state small. all-of caller changes state;
         fails = λ name state owned. record { to = tt; owned = owned };
-        asks = λ demand ended state ran kept. kept;
-        settles = λ reading ended state ran kept owned. kept (subst (IsOwners p owner) (sym (prompts-settled reading ended state)) owned);
-        opens = λ stem terms state ran kept. kept;
+        asks = λ demand ended state ran kept owned. announced-of (sent_asked brought demand ended state) ran.sends ran.state.prompts (asked-announced brought demand ended state) (kept owned);
+        settles = λ reading ended state ran kept owned.
+            announced-of (sent_settled reading ended state) ran.sends ran.state.prompts (settled-announced reading ended state)
+            (kept (subst (IsOwners p owner) (sym (prompts-settled reading ended state)) owned));
+        opens = λ stem terms state ran kept owned. announced-of (sent_opened brought stem terms state) ran.sends ran.state.prompts (opened-announced brought stem terms state) (kept owned);
       })
 
   event-of : (state : State) (event : Event) → IsOwners p owner state.prompts → IsKept p owner (puts_out state event) (step state event).prompts
@@ -247,9 +260,9 @@ goes_to_owner p state row events sound found = list-of p row.owner state events 
 
 -- ---- to one connection
 
--- whatever a signal is, it goes to one connection, and so does a reply
+-- Completed goes to one connection, and so does a reply
 signals-to-one : (p : PromptId) (sent : List Sent) → AllByRecursion IsSignal sent → AreForOne p sent
-signals-to-one p = each-weaker IsSignal (λ (one : Sent). IsTrue (completes p one.out) → IsOne one.to) (λ one is its. is.0)
+signals-to-one p = each-weaker IsSignal (λ (one : Sent). IsTrue (completes p one.out) → IsOne one.to) (λ one is its. is.0 p its)
 
 reply-to-one : (p : PromptId) (caller : ConnId) (request : Request) (answer : Result Body ErrorName) → AreForOne p (replies caller request answer)
 reply-to-one p caller request answer =

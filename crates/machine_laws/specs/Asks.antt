@@ -15,7 +15,7 @@ use Rattle.service_events.specs.service_tables.specs.Sent.{Recipient, One, Sent}
 -- whether a signal is Ask
 abbrev pub is_ask_signal : Signal → Bool
 is_ask_signal (signal.Ask prompt round kind label wrong) = true
-is_ask_signal (signal.Completed prompt dismissed completion) = false
+is_ask_signal _ = false
 
 -- whether an output is this signal
 abbrev pub is_ask : Out → Bool
@@ -35,7 +35,7 @@ AreForAgent agent sent = AllByRecursion (λ (one : Sent). IsTrue (is_ask one.out
 -- whether a signal is Ask of the prompt in this round
 abbrev pub is_ask_of : PromptId → ℕ → Signal → Bool
 is_ask_of prompt round (signal.Ask asked number kind label wrong) = nat_eq asked.0 prompt.0 && nat_eq number round
-is_ask_of prompt round (signal.Completed ended dismissed completion) = false
+is_ask_of prompt round _ = false
 
 -- whether an output is this signal
 abbrev pub asks_of : PromptId → ℕ → Out → Bool

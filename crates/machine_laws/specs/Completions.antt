@@ -17,8 +17,8 @@ use Rattle.service_events.specs.service_tables.specs.Sent.{Recipient, One, Every
 
 -- whether a signal is Completed of the prompt
 abbrev pub is_completed : PromptId → Signal → Bool
-is_completed prompt (signal.Ask asked round kind label wrong) = false
 is_completed prompt (signal.Completed ended dismissed completion) = nat_eq ended.0 prompt.0
+is_completed prompt _ = false
 
 -- whether an output is this signal
 abbrev pub completes : PromptId → Out → Bool
@@ -53,7 +53,7 @@ AreForOne prompt sent = AllByRecursion (λ (one : Sent). IsTrue (completes promp
 abbrev pub AreFor : PromptId → ConnId → List Sent → Type 0
 AreFor prompt conn sent = AllByRecursion (λ (one : Sent). IsTrue (completes prompt one.out) → one.to ≡ One conn) sent
 
--- the same of all that the events put out, one after the other, from a state on
+-- the same for all that the events put out, one after the other, from a state on
 abbrev pub AreAllFor : PromptId → ConnId → State → List Event → Type 0
 AreAllFor prompt conn state [] = Unit {0}
 AreAllFor prompt conn state (event ∷ events) = AreFor prompt conn (puts_out state event) × AreAllFor prompt conn (step state event) events

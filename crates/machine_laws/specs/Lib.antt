@@ -1,3 +1,4 @@
+pub mod Announcing
 pub mod Asks
 pub mod Completions
 pub mod Delivery

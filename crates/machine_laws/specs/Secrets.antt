@@ -42,7 +42,7 @@ abbrev pub item_called : Result Call CallFault → List ℕ
 item_called (Ok (call.GetSecret stem item session)) = path_text (object.Item stem item)
 item_called _ = []
 
--- the same of an event
+-- the same for an event
 abbrev pub item_asked : Event → List ℕ
 item_asked (event.Arrive came) = item_called came.arrival.request.call
 item_asked _ = []
