@@ -43,19 +43,20 @@ use Rattle.service_calls.specs.service_tables.specs.Connections.{spread}
 use Rattle.service_calls.specs.service_tables.specs.Storing.{Brought}
 use Rattle.service_calls.specs.service_tables.specs.declared.fate.StoreFate.{StoreFate}
 use Rattle.service_calls.specs.service_tables.specs.declared.fate.StoreFate.TheVariants as stored
-use Rattle.service_calls.specs.service_tables.specs.declared.rows.ConnRow.{ConnRow}
-use Rattle.service_calls.specs.service_tables.specs.declared.rows.Delivery.{Delivery}
+use Rattle.service_calls.specs.service_tables.specs.signal_fanout.specs.declared.rows.ConnRow.{ConnRow}
+use Rattle.service_calls.specs.service_tables.specs.signal_fanout.specs.declared.rows.Delivery.{Delivery}
+use Rattle.service_calls.specs.service_tables.proofs.SpreadLemmas.{spread-append}
 use Rattle.service_calls.specs.service_tables.proofs.AliasLemmas.{is-alias}
 use Rattle.service_calls.specs.service_tables.proofs.DiskLemmas.{changed-as, changed-back}
-use Rattle.service_calls.specs.service_events.specs.Derivation.{alias_given, collection_made, kind_derived, left_derived, making_ended, opening_ended, quietly, row_derived}
+use Rattle.service_calls.specs.service_events.specs.Derivation.{alias_given, collection_made, kind_derived, left_derived, making_ended, opening_ended, password_changed, quietly, row_derived}
 use Rattle.service_answers.specs.Purposes.{IsPurposeOf, purpose_of}
 use Rattle.service_answers.specs.declared.derived_key.Purpose.TheVariants as purpose
 use Rattle.service_answers.specs.declared.derived_key.Settled.{Settled}
 use Rattle.service_calls.specs.declared.storing.Done.{Done}
-use Rattle.service_calls.specs.service_events.specs.Plan.{Ask_prompt, Asks, Change, Clear_wrong, Count_wrong, Go_on, KeyTerms, Make, Opens, Plan, Questions, answered}
+use Rattle.service_calls.specs.service_events.specs.Plan.{Ask_prompt, Asks, Change, Clear_wrong, Count_wrong, Demand, Go_on, KeyTerms, Make, Opens, Plan, Questions, answered}
 use Rattle.service_calls.specs.service_events.specs.PromptCalls.{advance_sent, ask_for, asks_for, go_on_sent, passed_kind}
-use Rattle.service_calls.specs.service_events.specs.Run.{AreFates, AreNone, Ran, by_test, demanded, failing, fits, promised, run, sending, sent_all, unlocked_with}
-use Rattle.service_calls.specs.service_events.specs.Stored.{KeepsSlotOrAll, StoresOf}
+use Rattle.service_calls.specs.service_events.specs.Run.{AreFates, AreNone, Ran, by_test, demanded, failing, fits, promised, run, sending, sent_all, sent_asked, sent_opened, unlocked_with}
+use Rattle.service_calls.specs.service_events.specs.Stored.{KeepsSlotOrAll, StoresDemand, StoresOf}
 use Rattle.service_calls.specs.Done.{Leads, fates_in}
 use Rattle.service_answers.specs.Settled.{Settles, settled_fates}
 use Rattle.service_calls.specs.service_events.proofs.AdvanceLemmas.{KeepsPrompt, row-changed, row-number}
@@ -168,7 +169,7 @@ module _ (conn : ConnId) (prompt : PromptId) (state : State) (row : PromptRow) (
 
   -- what is sent when it advances with no wrong answers
   pub cleared-sends : sent_all conn (Clear_wrong prompt ∷ Go_on prompt ∷ []) state
-      ≡ advance_sent state.collections (record row { wrong = 0 }) (passed_kind (asked_collections (contents_of state)) row.kind) state.prompts.agent
+      ≡ advance_sent (asked_collections (contents_of state)) state.collections (record row { wrong = 0 }) (passed_kind (asked_collections (contents_of state)) row.kind) state.prompts.agent
   cleared-sends =
       let f : PromptRow → PromptRow = λ r. record r { wrong = 0 } in
       let asks = asked_collections (contents_of state) in
@@ -228,11 +229,21 @@ module _ {F S : Type 0} (folder_honest folder_steady : F → Bool) (folder_fault
 
   -- what a collection leads to that opened
   pub leads-opened : (stem : List ℕ) (terms : KeyTerms) (its_body : PublicBody) (change : Change) (changes : List Change) (mid : State) (done : Done) → mid ≡ unlocked_with brought stem terms before
+      → (sends : List Delivery) → sends ≡ spread before.connections.rows (sent_opened brought stem terms before) ++ done.sends
       → Leads folder_honest folder_steady folder_faults images folder_leaves names_made is_honest is_steady faults moment left_since may_leave caller brought (answered its_body (change ∷ changes)) mid after old new done
-      → Leads folder_honest folder_steady folder_faults images folder_leaves names_made is_honest is_steady faults moment left_since may_leave caller brought (Opens stem terms (answered its_body (change ∷ changes))) before after old new done
-  leads-opened stem terms its_body change changes mid done same leads =
+      → Leads folder_honest folder_steady folder_faults images folder_leaves names_made is_honest is_steady faults moment left_since may_leave caller brought (Opens stem terms (answered its_body (change ∷ changes))) before after old new (record done { sends = sends })
+  leads-opened stem terms its_body change changes mid done same sends said leads =
       let its = subst (λ s. Leads folder_honest folder_steady folder_faults images folder_leaves names_made is_honest is_steady faults moment left_since may_leave caller brought (answered its_body (change ∷ changes)) s after old new done) same leads in
-      record { answer = its.answer; state = its.state; sends = its.sends; fates = its.fates; disk = its.disk }
+      let rows = before.connections.rows in
+      let first = sent_opened brought stem terms before in
+      let ran : Ran = run caller brought (answered its_body (change ∷ changes)) (fates_in done) (unlocked_with brought stem terms before) in
+      record {
+        answer = its.answer;
+        state = its.state;
+        sends = said ∙ ap (λ ds. spread rows first ++ ds) its.sends ∙ sym (spread-append rows first ran.sends);
+        fates = its.fates;
+        disk = its.disk;
+      }
 
 -- two facts of it are one
 pub both-ok : {A E : Type 0} (result : Result A E) (P : A → Type 0) (Q : Type 0) (R : A → Type 0) → ((x : A) → P x → Q → R x) → IfOk result P → OnOk result Q → IfOk result R
@@ -275,6 +286,7 @@ typed-alias label alias salt (kind.Create l a s) sound is =
     let it : purpose.Create label alias salt ≡ purpose.Create l a s = is in
     let same : alias ≡ a = cc in
     elim sound.alias [ inl none ↦ inl (same ∙ none) | inr typed ↦ inr (subst IsAliasName (sym same) (is-alias a typed)) ]
+typed-alias label alias salt (kind.Change stem s) sound is = absurd (let no : purpose.Create label alias salt ≡ purpose.Change stem s = is in cc)
 
 pub create-alias : (label alias salt : List ℕ) (row : Option PromptRow) → IfSome row IsSoundPrompt → IsPurposeOf (purpose.Create label alias salt) row → (alias ≡ []) ⊎ IsAliasName alias
 create-alias label alias salt None sound is = absurd is
@@ -312,6 +324,7 @@ module _ (prompt : PromptId) (round : ℕ) (terms : KeyTerms) (asks : Questions)
       let same : Some stem ≡ option_map (λ (t : Target). t.stem) (first_left targets) = cc in
       left-plan wrong stem targets.left same
   target-kind wrong stem (kind.Create label alias salt) is = absurd (let no : purpose.Unlock (Some stem) ≡ purpose.Create label alias salt = is in cc)
+  target-kind wrong stem (kind.Change other salt) is = absurd (let no : purpose.Unlock (Some stem) ≡ purpose.Change other salt = is in cc)
 
   pub to-target : (To : Plan → Type 0) (row : Option PromptRow) (stem : List ℕ) → prompts.derives_in round row ≡ true → IsPurposeOf (purpose.Unlock (Some stem)) row
       → IfSome row (λ r. To (by-opening r.wrong stem)) → To (by-row row)
@@ -329,6 +342,7 @@ module _ (prompt : PromptId) (round : ℕ) (terms : KeyTerms) (asks : Questions)
       let same : None ≡ option_map (λ (t : Target). t.stem) (first_left targets) = cc in
       none-left wrong targets.left same
   none-kind wrong (kind.Create label alias salt) is = absurd (let no : purpose.Unlock None ≡ purpose.Create label alias salt = is in cc)
+  none-kind wrong (kind.Change stem salt) is = absurd (let no : purpose.Unlock None ≡ purpose.Change stem salt = is in cc)
 
   pub none-plan : (row : Option PromptRow) → prompts.derives_in round row ≡ true → IsPurposeOf (purpose.Unlock None) row → by-row row ≡ quietly (Go_on prompt ∷ [])
   none-plan None on is = absurd is
@@ -343,11 +357,27 @@ module _ (prompt : PromptId) (round : ℕ) (terms : KeyTerms) (asks : Questions)
       let two : alias ≡ a = cc in
       let three : salt ≡ s = cc in
       λ i. collection_made prompt (sym one i) (sym two i) (sym three i) terms asks
+  create-kind wrong label alias salt (kind.Change stem s) is = absurd (let no : purpose.Create label alias salt ≡ purpose.Change stem s = is in cc)
 
   pub create-plan : (label alias salt : List ℕ) (row : Option PromptRow) → prompts.derives_in round row ≡ true → IsPurposeOf (purpose.Create label alias salt) row
       → by-row row ≡ collection_made prompt label alias salt terms asks
   create-plan label alias salt None on is = absurd is
   create-plan label alias salt (Some row) on is = row-plan row on ∙ create-kind row.wrong label alias salt row.kind is
+
+  -- a password is changed
+  change-kind : (wrong : ℕ) (stem salt : List ℕ) (k : PromptKind) → purpose.Change stem salt ≡ purpose_of k → by-kind wrong k ≡ password_changed prompt stem salt terms asks
+  change-kind wrong stem salt (kind.Unlock targets) is = absurd (let no : purpose.Change stem salt ≡ purpose.Unlock (option_map (λ (t : Target). t.stem) (first_left targets)) = is in cc)
+  change-kind wrong stem salt (kind.Create label alias s) is = absurd (let no : purpose.Change stem salt ≡ purpose.Create label alias s = is in cc)
+  change-kind wrong stem salt (kind.Change other s) is =
+      let it : purpose.Change stem salt ≡ purpose.Change other s = is in
+      let one : stem ≡ other = cc in
+      let two : salt ≡ s = cc in
+      λ i. password_changed prompt (sym one i) (sym two i) terms asks
+
+  pub change-plan : (stem salt : List ℕ) (row : Option PromptRow) → prompts.derives_in round row ≡ true → IsPurposeOf (purpose.Change stem salt) row
+      → by-row row ≡ password_changed prompt stem salt terms asks
+  change-plan stem salt None on is = absurd is
+  change-plan stem salt (Some row) on is = row-plan row on ∙ change-kind row.wrong stem salt row.kind is
 
 -- ---- what a refusal leaves
 
@@ -398,7 +428,28 @@ module _ {F S : Type 0} (folder_honest folder_steady : F → Bool) (folder_fault
   pub settles-as : (plan other : Plan) (settled : Settled) → plan ≡ other → Settles-in other settled → Settles-in plan settled
   settles-as plan other settled same its = subst (λ p. Settles-in p settled) (sym same) its
 
-  -- one that makes a collection continues by how that ended
+  -- one that asks something of the disk continues by how that ended
+  pub settles-asked : (demand : Demand) (next : StoreFate → Plan) (mid : DiskState F S) (some : StoreFate) (done : Done) (sends : List Delivery) → fits (promised caller before (next stored.Stored)) ≡ true
+      → sends ≡ spread before.connections.rows (sent_asked brought demand some before) ++ done.sends
+      → StoresDemand folder_honest folder_steady folder_faults images folder_leaves names_made is_honest is_steady faults moment left_since may_leave demand some (contents_of before) (contents_of (demanded brought demand some before)) old mid
+      → Settles folder_honest folder_steady folder_faults images folder_leaves names_made is_honest is_steady faults moment left_since may_leave caller brought (next some) (demanded brought demand some before) after mid new (record { made = None; done = done })
+      → Settles-in (Asks demand next) (record { made = Some some; done = record done { sends = sends } })
+  settles-asked demand next mid some done sends small said did its =
+      let from = demanded brought demand some before in
+      let rows = before.connections.rows in
+      let first = sent_asked brought demand some before in
+      let after_it : Ran = run caller brought (next some) (fates_in done) from in
+      let ran : run caller brought (Asks demand next) (settled_fates (record { made = Some some; done = done })) before ≡ sending first after_it =
+      ap (λ b. by_test b (sending first after_it) (failing name.LimitsExceeded before)) small in
+      record {
+        state = its.state ∙ ap (λ (r : Ran). r.state) (sym ran);
+        sends = said ∙ ap (λ ds. spread rows first ++ ds) its.sends ∙ sym (spread-append rows first after_it.sends) ∙ ap (λ (r : Ran). spread rows r.sends) (sym ran);
+        fates = subst (λ b. by_test b (AreFates caller brought (next some) (fates_in done) from) (AreNone (settled_fates (record { made = Some some; done = done })))) (sym small) its.fates;
+        disk = subst (λ b. by_test b ((at : DiskState F S) × StoresDemand folder_honest folder_steady folder_faults images folder_leaves names_made is_honest is_steady faults moment left_since may_leave demand some (contents_of before) (contents_of from) old at
+            × StoresOf folder_honest folder_steady folder_faults images folder_leaves names_made is_honest is_steady faults moment left_since may_leave caller brought (next some) (fates_in done) from at new) (new ≡ old)) (sym small) (mid, did, its.disk);
+      }
+
+  -- one that makes a collection
   module _ (prompt : PromptId) (alias stem label : List ℕ) (terms : KeyTerms) (middle : State) (mid : DiskState F S) where
     abbrev Made-plan : Plan
     Made-plan = Asks (Make stem label terms) (making_ended prompt alias stem)
@@ -410,31 +461,18 @@ module _ {F S : Type 0} (folder_honest folder_steady : F → Bool) (folder_fault
     abbrev Was-made : StoreFate → Rows → Rows → DiskState F S → Type 0
     Was-made some these those was = MakesAt folder_honest folder_steady folder_faults images folder_leaves names_made is_honest is_steady faults moment left_since may_leave stem some these those was mid
 
-    abbrev would-answer : Bool
-    would-answer = fits (promised caller before (making_ended prompt alias stem stored.Stored))
-
-    would-fit : would-answer ≡ true
+    would-fit : fits (promised caller before (making_ended prompt alias stem stored.Stored)) ≡ true
     would-fit = ap fits (given-promised caller before prompt alias stem) ∙ empty-small
 
-    made-settles : (some : StoreFate) (done : Done) → Was-made some before.collections (demanded brought (Make stem label terms) some before).collections old
-        → After-making some (demanded brought (Make stem label terms) some before) done → Settles-in Made-plan (record { made = Some some; done = done })
-    made-settles some done made its =
-        let from = demanded brought (Make stem label terms) some before in
-        let ran : run caller brought Made-plan (settled_fates (record { made = Some some; done = done })) before ≡ sending [] (run caller brought (making_ended prompt alias stem some) (fates_in done) from) =
-        ap (λ b. by_test b (sending [] (run caller brought (making_ended prompt alias stem some) (fates_in done) from)) (failing name.LimitsExceeded before)) would-fit in
-        record {
-          state = its.state ∙ ap (λ (r : Ran). r.state) (sym ran);
-          sends = its.sends ∙ ap (λ (r : Ran). spread before.connections.rows r.sends) (sym ran);
-          fates = subst (λ b. by_test b (AreFates caller brought (making_ended prompt alias stem some) (fates_in done) from) (AreNone (settled_fates (record { made = Some some; done = done })))) (sym would-fit) its.fates;
-          disk = subst (λ b. by_test b ((at : DiskState F S) × MakesAt folder_honest folder_steady folder_faults images folder_leaves names_made is_honest is_steady faults moment left_since may_leave stem some before.collections from.collections old at
-              × StoresOf folder_honest folder_steady folder_faults images folder_leaves names_made is_honest is_steady faults moment left_since may_leave caller brought (making_ended prompt alias stem some) (fates_in done) from at new) (new ≡ old)) (sym would-fit) (mid, made, its.disk);
-        }
+    made-settles : (some : StoreFate) (done : Done) (sends : List Delivery) → sends ≡ spread before.connections.rows (sent_asked brought (Make stem label terms) some before) ++ done.sends → Was-made some before.collections (demanded brought (Make stem label terms) some before).collections old
+        → After-making some (demanded brought (Make stem label terms) some before) done → Settles-in Made-plan (record { made = Some some; done = record done { sends = sends } })
+    made-settles some done sends said made its = settles-asked (Make stem label terms) (making_ended prompt alias stem) mid some done sends would-fit said made its
 
     -- from a state and a disk that are equal
-    pub settles-made : (some : StoreFate) (done : Done) (these : Rows) (was : DiskState F S) → middle ≡ demanded brought (Make stem label terms) some before → these ≡ before.collections → was ≡ old
-        → Was-made some these middle.collections was → After-making some middle done → Settles-in Made-plan (record { made = Some some; done = done })
-    settles-made some done these was state rows disk made its =
-        made-settles some done
+    pub settles-made : (some : StoreFate) (done : Done) (sends : List Delivery) → sends ≡ spread before.connections.rows (sent_asked brought (Make stem label terms) some before) ++ done.sends → (these : Rows) (was : DiskState F S) → middle ≡ demanded brought (Make stem label terms) some before → these ≡ before.collections → was ≡ old
+        → Was-made some these middle.collections was → After-making some middle done → Settles-in Made-plan (record { made = Some some; done = record done { sends = sends } })
+    settles-made some done sends said these was state rows disk made its =
+        made-settles some done sends said
         (subst (λ r. Was-made some r (demanded brought (Make stem label terms) some before).collections old) rows
         (subst (λ (s : State). Was-made some these s.collections old) state (subst (Was-made some these middle.collections) disk made)))
         (subst (λ s. After-making some s done) state its)

@@ -17,7 +17,7 @@ use Rattle.service_calls.specs.service_tables.specs.declared.fate.ReadFate.{Read
 use Rattle.service_calls.specs.service_tables.specs.declared.fate.ReadFate.TheVariants as read
 use Rattle.service_calls.specs.service_tables.specs.declared.fate.StoreFate.{StoreFate}
 use Rattle.service_calls.specs.service_tables.specs.declared.fate.StoreFate.TheVariants as stored
-use Rattle.service_calls.specs.service_tables.specs.declared.rows.Delivery.{Delivery}
+use Rattle.service_calls.specs.service_tables.specs.signal_fanout.specs.declared.rows.Delivery.{Delivery}
 use Rattle.service_calls.specs.service_tables.proofs.SpreadLemmas.{spread-append}
 use Rattle.service_calls.specs.declared.storing.Done.{Done}
 use Rattle.service_calls.specs.service_events.specs.Plan.{Answer, Change, Plan, Ends, Asks, Resolves, Opens, Gives, Questions, Refuses, Returns, followed}

@@ -1,4 +1,5 @@
 pub mod AnswerLemmas
+pub mod ChangingLemmas
 pub mod DerivedLemmas
 pub mod FollowedLemmas
 pub mod NewLemmas

@@ -25,12 +25,11 @@ use Rattle.prompt_state.specs.declared.row.PromptRow.{PromptRow}
 use Rattle.prompt_state.specs.declared.row.Prompts.{Prompts}
 use Rattle.service_calls.specs.secret_calls.specs.declared.out.Body.TheVariants as body
 use Rattle.service_calls.specs.secret_calls.specs.declared.out.ErrorName.TheVariants as name
-use Rattle.service_calls.specs.secret_calls.specs.declared.out.Out.{Out}
 use Rattle.stem_choice.specs.UsedStems.{is_used}
 use Rattle.service_calls.specs.service_prompts.specs.Prompting.{completed_sent, completed_signal}
 use Rattle.service_calls.specs.service_disk.specs.Making.{AreFree}
 use Rattle.service_calls.specs.service_tables.specs.Aliases.{IsPreparedFor, IsPreparedIn, are_doubtful}
-use Rattle.service_calls.specs.service_tables.specs.Connections.{HasRoom, Rooms, spread}
+use Rattle.service_calls.specs.service_tables.specs.Connections.{spread}
 use Rattle.service_calls.specs.service_tables.specs.Disk.{DiskState}
 use Rattle.service_calls.specs.service_tables.specs.Opened.{contents_of}
 use Rattle.service_calls.specs.service_tables.specs.State.{State}
@@ -38,8 +37,8 @@ use Rattle.service_calls.specs.service_tables.specs.Storing.{Brought}
 use Rattle.service_calls.specs.service_tables.specs.declared.fate.ReadFate.{ReadFate}
 use Rattle.service_calls.specs.service_tables.specs.declared.fate.StoreFate.{StoreFate}
 use Rattle.service_calls.specs.service_tables.specs.declared.fate.StoreFate.TheVariants as stored
-use Rattle.service_calls.specs.service_tables.specs.declared.rows.ConnRow.{ConnRow}
-use Rattle.service_calls.specs.service_tables.specs.declared.rows.Delivery.{Delivery}
+use Rattle.service_calls.specs.service_tables.specs.signal_fanout.specs.declared.rows.ConnRow.{ConnRow}
+use Rattle.service_calls.specs.service_tables.specs.signal_fanout.specs.declared.rows.Delivery.{Delivery}
 use Rattle.service_calls.specs.service_events.specs.AliasCalls.{alias_settled, alias_stored}
 use Rattle.service_calls.specs.service_events.specs.Derivation.{alias_given, are_terms, can_make, collection_made, completing, dismissing, making_ended, new_iterations, quietly}
 use Rattle.service_calls.specs.service_events.specs.Plan.{Aliases_file, Asks, Change, End_prompt, KeyTerms, Make, Plan, Questions, Set_alias, followed, refused}
@@ -47,8 +46,8 @@ use Rattle.service_answers.specs.Purposes.{SetsAlias}
 use Rattle.service_calls.specs.service_events.specs.Run.{asked, performed_all, sent_all}
 use Rattle.service_calls.specs.service_events.specs.CollectionCalls.{by_fate}
 use Rattle.service_calls.specs.service_events.specs.PublicBody as public
-use Rattle.service_calls.specs.Done.{HasRoomToReply, Leads}
-use Rattle.service_answers.specs.Settled.{Settles}
+use Rattle.service_calls.specs.Done.{Leads}
+use Rattle.service_answers.specs.Settled.{Settles, ended_sent}
 use Rattle.service_calls.specs.declared.storing.Done.{Done}
 use Rattle.service_calls.specs.service_events.proofs.SmallLemmas.{empty-small}
 use Rattle.service_calls.proofs.LeadsLemmas.{leads-changes, settles-known}
@@ -70,7 +69,7 @@ unlisted stem used (row ∷ rows) off taken =
     ] in
     pass (is_name stem row.0) refl
 
-same-name : (a b : List ℕ) → Decides (is_name a b) (a ≡ b)
+pub same-name : (a b : List ℕ) → Decides (is_name a b) (a ≡ b)
 same-name a b = (λ is. exact_bytes a b (is_equal (slice_cmp nat_cmp a b) is), λ same. subst (λ n. is_name a n ≡ true) same (ap is_eq (tied_itself nat_list_cmp_total a)))
 
 pub unused : (stem : List ℕ) (used : List (List ℕ)) → is_used stem used ≡ false → Contains used stem → ⊥
@@ -103,27 +102,6 @@ pub sets-prepared : (alias stem : List ℕ) (collections : Rows) (aliases : Opti
 sets-prepared alias stem collections aliases None sets = tt
 sets-prepared alias stem collections aliases (Some change) sets = (alias, Some stem, sets.1)
 
--- there is as much room for one signal as for another one to the same owner
-same-count : (a b : Bool) (reply one other : Out) → length (cond a (reply ∷ cond b (one ∷ []) []) (cond b (one ∷ []) [])) ≡ length (cond a (reply ∷ cond b (other ∷ []) []) (cond b (other ∷ []) []))
-same-count true true reply one other = refl
-same-count true false reply one other = refl
-same-count false true reply one other = refl
-same-count false false reply one other = refl
-
-pub room-either : (caller : ConnId) (prompt : PromptId) (created : Option (List ℕ)) (state : Prompts) (these : List ConnRow) (rooms : Rooms)
-    → HasRoomToReply caller (spread these (completed_sent prompt false created state)) rooms → HasRoomToReply caller (spread these (completed_sent prompt true None state)) rooms
-room-either caller prompt created state these rooms room =
-    let pass : (o : Option PromptRow) → HasRoomToReply caller (spread these (cons_option (option_map (λ (row : PromptRow). completed_signal false created (prompts.ended_row row)) o) [])) rooms
-    → HasRoomToReply caller (spread these (cons_option (option_map (λ (row : PromptRow). completed_signal true None (prompts.ended_row row)) o) [])) rooms =
-    elim [
-      | None ↦ λ has. has
-      | Some row ↦ λ has reply conn.
-          let one = completed_signal false created (prompts.ended_row row) in
-          let other = completed_signal true None (prompts.ended_row row) in
-          subst (λ n. HasRoom n conn rooms) (same-count (caller.0 == conn.0) (row.owner.0 == conn.0) reply one.out other.out) (has reply conn)
-    ] in
-    pass (row_at prompt state) room
-
 -- ---- its prompt ends
 
 -- it wasn't stored, or that isn't known
@@ -131,6 +109,26 @@ pub ended-dismissed : (prompt : PromptId) (alias stem : List ℕ) (some : StoreF
 ended-dismissed prompt alias stem stored.Stored apart = absurd (apart refl)
 ended-dismissed prompt alias stem stored.Before apart = refl
 ended-dismissed prompt alias stem stored.Unsure apart = refl
+
+-- then this is sent
+pub sent-dismissed : (prompt : PromptId) (stem : List ℕ) (some : StoreFate) (its : Prompts) → (some ≡ stored.Stored → ⊥) → ended_sent prompt stem some its ≡ completed_sent prompt true None its
+sent-dismissed prompt stem stored.Stored its apart = absurd (apart refl)
+sent-dismissed prompt stem stored.Before its apart = refl
+sent-dismissed prompt stem stored.Unsure its apart = refl
+
+-- it goes to the owner, whoever is there
+completed-anyway : (prompt : PromptId) (dismissed : Bool) (created : Option (List ℕ)) (its : Prompts) (these those : List ConnRow)
+    → spread these (completed_sent prompt dismissed created its) ≡ spread those (completed_sent prompt dismissed created its)
+completed-anyway prompt dismissed created its these those =
+    let pass : (o : Option PromptRow) → spread these (cons_option (option_map (λ (row : PromptRow). completed_signal dismissed created (prompts.ended_row row)) o) [])
+    ≡ spread those (cons_option (option_map (λ (row : PromptRow). completed_signal dismissed created (prompts.ended_row row)) o) []) =
+    elim [ None ↦ refl | Some row ↦ refl ] in
+    pass (row_at prompt its)
+
+pub ended-anyway : (prompt : PromptId) (stem : List ℕ) (some : StoreFate) (its : Prompts) (these those : List ConnRow) → spread these (ended_sent prompt stem some its) ≡ spread those (ended_sent prompt stem some its)
+ended-anyway prompt stem stored.Stored its these those = completed-anyway prompt false (Some stem) its these those
+ended-anyway prompt stem stored.Before its these those = completed-anyway prompt true None its these those
+ended-anyway prompt stem stored.Unsure its these those = completed-anyway prompt true None its these those
 
 given-followed : (prompt : PromptId) (alias stem : List ℕ) → (alias ≡ [] → ⊥) → alias_given prompt alias stem ≡ followed (completing prompt stem) (alias_settled alias (Some stem))
 given-followed prompt [] stem given = absurd (given refl)

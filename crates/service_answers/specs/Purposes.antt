@@ -12,10 +12,11 @@ use Rattle.service_calls.specs.service_tables.specs.Aliases.{IsPreparedIn}
 use Rattle.service_answers.specs.declared.derived_key.Purpose.{Purpose}
 use Rattle.service_answers.specs.declared.derived_key.Purpose.TheVariants as purpose
 
--- what a kind of prompt is for: the first target that is left, or the collection that it creates
+-- what a kind of prompt is for: the first target that is left, the collection that it creates, or the one whose password it changes
 abbrev pub purpose_of : PromptKind → Purpose
 purpose_of (kind.Unlock targets) = purpose.Unlock (option_map (λ (target : Target). target.stem) (first_left targets))
 purpose_of (kind.Create label alias salt) = purpose.Create label alias salt
+purpose_of (kind.Change stem salt) = purpose.Change stem salt
 
 -- it is what the prompt of this row is for, if it is there
 abbrev pub IsPurposeOf : Purpose → Option PromptRow → Type 0

@@ -1,5 +1,5 @@
-// What becomes of a prompt once the key was derived that its answer asked for (docs/SERVICE.md, "Prompts").
-ghost use Rattle.std.specs.Prelude.{◌↔◌, length, Contains, Ok, ◌≡◌, ◌⊎◌, ◌+◌, ◌^◌, ◌∷◌, ◌<◌, ◌≤◌, ℕ, nat_le, List, Option, [], None, Some, true, false, IsTrue, IfOk, IfNone, IfSome, OnErr, OnOk};
+// What becomes of a prompt once the key that its answer asked for was derived (docs/SERVICE.md, "Prompts").
+ghost use Rattle.std.specs.Prelude.{◌↔◌, length, Contains, Ok, ◌≡◌, ◌⊎◌, ◌+◌, ◌++◌, ◌^◌, ◌∷◌, ◌<◌, ◌≤◌, ℕ, nat_le, List, Option, [], None, Some, true, false, IsTrue, IfOk, IfNone, IfSome, OnErr, OnOk};
 ghost use Rattle.std.specs.Option.{is_some};
 ghost use Rattle.kr_base.specs.declared.ids.ConnId.{ConnId};
 ghost use Rattle.kr_names.specs.Path.{IsAliasName};
@@ -10,7 +10,10 @@ ghost use Rattle.service_calls.specs.collection_table.specs.Rows.{CollectionRow,
 ghost use Rattle.prompt_state.specs.Prompts.{derives_in, last_round, next_round, row_at};
 ghost use Rattle.service_calls.specs.service_disk.specs.Making.{AreFree, has_room};
 ghost use Rattle.stem_choice.specs.Choice.{chosen};
+ghost use Rattle.service_calls.specs.service_prompts.specs.Announcing.{announced, lock_signals, made_signals, make_signals};
 ghost use Rattle.service_calls.specs.service_prompts.specs.Prompting.{completed_sent};
+ghost use Rattle.service_calls.specs.service_tables.specs.declared.fate.StoreFate.{StoreFate};
+ghost use Rattle.service_calls.specs.service_tables.specs.signal_fanout.specs.declared.rows.Delivery.{Delivery};
 ghost use Rattle.service_calls.specs.secret_calls.specs.declared.out.Body.TheVariants as body;
 ghost use Rattle.service_calls.specs.service_tables.specs.declared.fate.StoreFate.TheVariants as StoreFate;
 ghost use Rattle.service_calls.specs.service_disk.specs.Opening.{opening_of, rows_opened};
@@ -26,15 +29,16 @@ ghost use Rattle.service_answers.specs.Purposes.{IsPurposeOf, SetsAlias};
 ghost use Rattle.service_answers.specs.declared.derived_key.Purpose.TheVariants as Purpose;
 ghost use Rattle.service_calls.specs.service_events.specs.Stored.{KeepsSlotOrAll};
 ghost use Rattle.service_calls.specs.Done.{HasRoomToReply, Leads};
-ghost use Rattle.service_answers.specs.Settled.{Settles};
+ghost use Rattle.service_answers.specs.Settled.{Settles, ended_sent, ends_by};
 ghost use Rattle.service_calls.specs.service_tables.specs.Aliases.{IsPreparedFor};
 ghost use Rattle.service_calls.specs.service_tables.specs.Connections.{HasRoomFor, spread};
 ghost use Rattle.service_calls.specs.service_tables.specs.Opened.{contents_of};
 ghost use Rattle.service_calls.specs.service_tables.specs.Sound.{IsSound};
 ghost use Rattle.service_calls.specs.service_tables.specs.Storing.{Brought};
-ghost use Rattle.service_calls.specs.service_tables.specs.declared.rows.ConnRow.{ConnRow};
+ghost use Rattle.service_calls.specs.service_tables.specs.signal_fanout.specs.declared.rows.ConnRow.{ConnRow};
 
 use crate::answering::NEW_ITERATIONS;
+use crate::changing::change_password;
 use key_derivation::Derived;
 use kr_base::{ConnId, OutOfMemory, PromptId, Stem, Text};
 use kr_outside::Folder;
@@ -43,7 +47,7 @@ use service_calls::alias_table::AliasChange;
 use service_calls::folder_store::LIMITS;
 use service_calls::secret_calls::Body;
 use service_calls::service_disk::{Opening, has_room, make, unlock};
-use service_calls::service_prompts::{ask_signal, completed_sent};
+use service_calls::service_prompts::{ask_signal, completed_sent, lock_signals, made_signals};
 use service_calls::service_tables::{Delivery, StoreFate};
 use service_calls::{Done, Tables, pass_kind, sending, unstored};
 use std::alloc::Global;
@@ -52,11 +56,11 @@ use stem_choice::chosen_stem;
 /// At so many wrong answers, one after the other, a prompt ends.
 const MOST_WRONG_ANSWERS: u32 = 3;
 
-/// What a derived key led to: how the making of a collection ended, if it asked for one, and what is sent, with
-/// how the resolve and the storing of the aliases ended that came after it. The answer in it is sent to no one.
+/// What a derived key led to: how storing a collection under it ended, if that was asked for, and what is sent, with
+/// how the resolve and the storing of the aliases that came after it ended. The answer in it is sent to no one.
 #[derive(Drop)]
 pub struct Settled {
-    /// How the making of a collection ended.
+    /// How making a collection, or changing its password, ended.
     pub made: Option<StoreFate>,
     /// What came after it.
     pub done: Done,
@@ -67,12 +71,35 @@ pub struct Settled {
 pub struct Prepared {
     /// The stem of the collection.
     pub stem: Stem,
-    /// What is sent if it isn't made.
-    pub dismissed: Vec<Delivery>,
-    /// What is sent if it is.
-    pub completed: Vec<Delivery>,
+    /// What is sent, by how making it ends.
+    pub ends: Ends,
     /// The change that sets its alias, if it gets one.
     pub change: Option<AliasChange>,
+}
+
+/// What is sent once a collection was to be stored under a derived key, by how that ended.
+#[derive(Drop)]
+pub struct Ends {
+    /// If it was stored: that it was made, if it is new, and then that its prompt completed.
+    pub stored: Vec<Delivery>,
+    /// If nothing was stored: that its prompt was dismissed.
+    pub before: Vec<Delivery>,
+    /// If that isn't known: that it was made, or is locked, and then that its prompt was dismissed.
+    pub unsure: Vec<Delivery>,
+}
+
+impl Ends {
+    /// What is sent once the storing ended so.
+    pub fn by(self, fate: StoreFate) -> Vec<Delivery>
+        ensures { result.items
+            ≡ ends_by self.stored.items self.before.items self.unsure.items fate }
+    {
+        match fate {
+            StoreFate::Stored => self.stored,
+            StoreFate::Before => self.before,
+            StoreFate::Unsure => self.unsure,
+        }
+    }
 }
 
 /// What a prompt is for, as far as a derived key needs it.
@@ -89,10 +116,17 @@ pub enum Purpose {
         /// The salt.
         salt: [u8; 8],
     },
+    /// It changes the password of a collection.
+    Change {
+        /// The stem of the collection.
+        stem: Stem,
+        /// The salt.
+        salt: [u8; 8],
+    },
 }
 
-// What is asked for no making.
-fn unmade(done: Done) -> Settled
+/// What asked for no such storing.
+pub fn unmade(done: Done) -> Settled
     ensures { result ≡ record { made = None; done = done } }
 {
     Settled { made: None, done }
@@ -116,8 +150,8 @@ fn is_last_wrong(wrong: u32) -> bool
     wrong >= MOST_WRONG_ANSWERS - 1
 }
 
-// Whether a key has the terms of a new collection's whose prompt keeps this salt.
-fn are_terms(salt: &[u8; 8], key: &Derived) -> bool
+/// Whether a key has the terms of a new password's whose prompt keeps this salt.
+pub fn are_terms(salt: &[u8; 8], key: &Derived) -> bool
     ensures terms { IsTrue result
         ↔ (key.now.salt ≡ salt.now) × (key.now.iterations ≡ new_iterations) }
     ensures eight { length key.now.salt ≡ 8 }
@@ -167,10 +201,13 @@ pub fn settle<F: Folder>(
         Purpose::Create { label, alias, salt } => {
             create(tables, conn, prompt, label, alias, salt, key, now)
         }
+        Purpose::Change { stem, salt } => {
+            change_password(tables, conn, prompt, &stem, &salt, key, now)
+        }
     }
 }
 
-// What a prompt is for that is there.
+// What an existing prompt is for.
 fn purpose_of<F: Folder>(tables: &Tables<F>, prompt: PromptId) -> Result<Purpose, OutOfMemory>
     requires { is_some (row_at prompt (rows_of tables.now).prompts) ≡ true }
     ensures { IfOk result (λ purpose.
@@ -187,6 +224,10 @@ fn purpose_of<F: Folder>(tables: &Tables<F>, prompt: PromptId) -> Result<Purpose
         PromptKind::Create { label, alias, salt } => Ok(Purpose::Create {
             label: label.copy()?,
             alias: alias.copy()?,
+            salt: *salt,
+        }),
+        PromptKind::Change { stem, salt } => Ok(Purpose::Change {
+            stem: stem.copy()?,
             salt: *salt,
         }),
     }
@@ -259,7 +300,7 @@ fn try_key<F: Folder>(
         Opening::Unfit => ask_again(tables, conn, prompt),
         Opening::WrongPassword => count_wrong(tables, conn, prompt),
         Opening::Damaged => tables.end_dismissed(conn, prompt),
-        Opening::Opened => match go_on_cleared(tables, conn, prompt) {
+        Opening::Opened => match go_on_opened(tables, conn, prompt, stem) {
             Ok(done) => Ok(done),
             Err(refused) => {
                 // It was locked before, and nothing else has changed.
@@ -295,26 +336,39 @@ fn open_with<F: Folder>(
     unlock(&mut tables.disk, stem, key)
 }
 
-// The prompt advances with no wrong answers. All memory is taken before it changes.
-fn go_on_cleared<F: Folder>(
+// The prompt advances with no wrong answers, after the collection of a stem was unlocked, which is sent to everyone
+// first. All memory is taken before it changes.
+fn go_on_opened<F: Folder>(
     tables: &mut Tables<F>,
     conn: ConnId,
     prompt: PromptId,
+    stem: &Stem,
 ) -> Result<Done, OutOfMemory>
     requires there { is_some (row_at prompt (rows_of tables.old).prompts) ≡ true }
     requires round { next_round (row_at prompt (rows_of tables.old).prompts) ≤ last_round }
-    ensures leads { IfOk result (λ done. (brought : Brought)
+    ensures leads { IfOk result (λ done. (brought : Brought) (rest : List Delivery)
+        → rest ≡ spread (rows_of tables.old).connections.rows
+        (sent_all conn (Clear_wrong prompt ∷ Go_on prompt ∷ []) (rows_of tables.old))
         → Leads F.is_honest F.is_steady F.faults F.images
         F.may_leave F.made F.Cell.is_honest F.Cell.is_steady
         F.Cell.faults F.Cell.moment F.Cell.left_since F.Cell.may_leave conn brought
         (quietly (Clear_wrong prompt ∷ Go_on prompt ∷ []))
-        (rows_of tables.old) (rows_of tables.new) (disk_of tables.old) (disk_of tables.new) done) }
+        (rows_of tables.old) (rows_of tables.new) (disk_of tables.old) (disk_of tables.new)
+        (record done { sends = rest })) }
+    ensures sends { IfOk result (λ done. done.sends
+        ≡ spread (rows_of tables.old).connections.rows (announced (lock_signals stem.now false))
+        ++ spread (rows_of tables.old).connections.rows
+        (sent_all conn (Clear_wrong prompt ∷ Go_on prompt ∷ []) (rows_of tables.old))) }
     ensures room { IfOk result (λ done.
         HasRoomToReply conn done.sends tables.new.connections.rooms) }
+    ensures disk { disk_of tables.new ≡ disk_of tables.old }
     ensures unchanged { OnErr result ((rows_of tables.new ≡ rows_of tables.old)
         × (disk_of tables.new ≡ disk_of tables.old)) }
 {
-    let sends = cleared_sends(tables, conn, prompt)?;
+    let signals = lock_signals(tables.alloc, stem, false)?;
+    let mut sends = tables.announced(signals)?;
+    let mut advance = cleared_sends(tables, conn, prompt)?;
+    sends.append(&mut advance)?;
     tables.connections.reserve_for(conn, &sends)?;
     tables.prompts.clear_wrong(prompt);
     tables.go_on_now(conn, prompt);
@@ -338,8 +392,9 @@ fn cleared_sends<F: Folder>(
         unreachable!();
     };
     let mut kind = row.kind.copy()?;
-    pass_kind(&tables.disk, &mut kind);
-    tables.advance_sent(row, 0, &kind)
+    let gone: Option<Stem> = None;
+    pass_kind(&tables.disk, &gone, &mut kind);
+    tables.advance_sent(row, 0, &gone, &kind)
 }
 
 // The prompt is asked again, for the same target. All memory is taken before it changes.
@@ -401,7 +456,7 @@ fn count_wrong<F: Folder>(
     Ok(sending(Ok(Body::Empty), sends))
 }
 
-// How many wrong answers a prompt has that is there.
+// How many wrong answers an existing prompt has.
 fn wrong_of<F: Folder>(tables: &Tables<F>, prompt: PromptId) -> u32
     ensures { IfSome (row_at prompt (rows_of tables.now).prompts) (λ row. result ≡ row.wrong) }
 {
@@ -411,7 +466,7 @@ fn wrong_of<F: Folder>(tables: &Tables<F>, prompt: PromptId) -> u32
     }
 }
 
-// What is sent when a prompt is asked again that is there and has a next round, with so many wrong answers.
+// What is sent when an existing prompt that has a next round is asked again, with so many wrong answers.
 fn ask_sends<F: Folder>(
     tables: &Tables<F>,
     prompt: PromptId,
@@ -550,14 +605,9 @@ fn make_new<F: Folder>(
         (making_ended prompt alias (chosen label (rows_of tables.old).used)))
         (disk_of tables.old) (disk_of tables.new)) }
 {
-    let Prepared {
-        stem,
-        dismissed,
-        completed,
-        change,
-    } = prepare_new(tables, conn, prompt, &label, alias)?;
+    let Prepared { stem, ends, change } = prepare_new(tables, conn, prompt, &label, alias)?;
     let fate = make(tables.alloc, &mut tables.disk, stem, label, key, now)?;
-    let done = end_made(tables, prompt, fate, dismissed, completed, change);
+    let done = end_made(tables, prompt, fate, ends.by(fate), change);
     Ok(Settled {
         made: Some(fate),
         done,
@@ -578,31 +628,54 @@ fn prepare_new<F: Folder>(
     ensures unused { IfOk result (λ new. ¬ (Contains (rows_of tables.old).used new.stem)) }
     ensures unlisted { IfOk result (λ new.
         has_collection new.stem (rows_of tables.old).collections ≡ false) }
-    ensures dismissed { IfOk result (λ new. (rows : List ConnRow) → new.dismissed.items
-        ≡ spread rows (completed_sent prompt true None (rows_of tables.old).prompts)) }
-    ensures completed { IfOk result (λ new. (rows : List ConnRow) → new.completed.items
-        ≡ spread rows (completed_sent prompt false (Some new.stem) (rows_of tables.old).prompts)) }
+    ensures ends { IfOk result (λ new. (fate : StoreFate)
+        → ends_by new.ends.stored.items new.ends.before.items new.ends.unsure.items fate
+        ≡ spread (rows_of tables.old).connections.rows (announced (make_signals new.stem fate))
+        ++ spread (rows_of tables.old).connections.rows
+        (ended_sent prompt new.stem fate (rows_of tables.old).prompts)) }
     ensures change { IfOk result (λ new. (row : CollectionRow) → SetsAlias alias new.stem
         (inserted new.stem row (rows_of tables.old).collections)
         (rows_of tables.old).aliases new.change) }
-    ensures room { IfOk result (λ new.
-        HasRoomToReply conn new.dismissed.items tables.new.connections.rooms
-        × HasRoomToReply conn new.completed.items tables.new.connections.rooms) }
+    ensures room { IfOk result (λ new. (fate : StoreFate) → HasRoomToReply conn
+        (ends_by new.ends.stored.items new.ends.before.items new.ends.unsure.items fate)
+        tables.new.connections.rooms) }
     ensures rows { rows_of tables.new ≡ rows_of tables.old }
     ensures disk { disk_of tables.new ≡ disk_of tables.old }
 {
     let stem = new_stem(tables, label)?;
     let created = Some(stem.copy()?);
-    let dismissed = completed_sent(tables.alloc, &tables.prompts, prompt, true, &None)?;
     let completed = completed_sent(tables.alloc, &tables.prompts, prompt, false, &created)?;
-    tables.connections.reserve_for(conn, &completed)?;
+    let stored = made_then(tables, &stem, completed)?;
+    let before = completed_sent(tables.alloc, &tables.prompts, prompt, true, &None)?;
+    let dismissed = completed_sent(tables.alloc, &tables.prompts, prompt, true, &None)?;
+    let unsure = made_then(tables, &stem, dismissed)?;
+    tables.connections.reserve_for(conn, &stored)?;
+    tables.connections.reserve_for(conn, &before)?;
+    tables.connections.reserve_for(conn, &unsure)?;
     let change = change_for(tables, alias, &stem)?;
-    Ok(Prepared {
-        stem,
-        dismissed,
-        completed,
-        change,
-    })
+    let ends = Ends {
+        stored,
+        before,
+        unsure,
+    };
+    Ok(Prepared { stem, ends, change })
+}
+
+// That a collection was made, to everyone, and then this.
+fn made_then<F: Folder>(
+    tables: &Tables<F>,
+    stem: &Stem,
+    after: Vec<Delivery>,
+) -> Result<Vec<Delivery>, OutOfMemory>
+    ensures { IfOk result (λ sends. sends.items
+        ≡ spread (rows_of tables.now).connections.rows (announced (made_signals stem.now))
+        ++ after.items) }
+{
+    let mut after = after;
+    let signals = made_signals(tables.alloc, stem)?;
+    let mut sends = tables.announced(signals)?;
+    sends.append(&mut after)?;
+    Ok(sends)
 }
 
 // The stem of a new collection of this label. It isn't used, so no collection has it.
@@ -635,14 +708,13 @@ fn change_for<F: Folder>(
     tables.disk.prepare_alias_of_new(alias, stem.copy()?)
 }
 
-// Ends the prompt of a collection whose making ended so: if it was stored, its alias is set first. It takes no
-// memory.
+// Ends the prompt that was to create a collection, by how making it ended: if it was stored, its alias is set
+// first. This is what is sent. It takes no memory.
 fn end_made<F: Folder>(
     tables: &mut Tables<F>,
     prompt: PromptId,
     fate: StoreFate,
-    dismissed: Vec<Delivery>,
-    completed: Vec<Delivery>,
+    sends: Vec<Delivery>,
     change: Option<AliasChange>,
 ) -> Done
     requires there { is_some (row_at prompt (rows_of tables.old).prompts) ≡ true }
@@ -650,10 +722,8 @@ fn end_made<F: Folder>(
         × (stem : Option (List ℕ))
         × IsPreparedFor alias stem (contents_of (rows_of tables.old)) change) }
     ensures settles { (conn : ConnId) (brought : Brought) (alias stem : List ℕ)
-        → ((rows : List ConnRow) → dismissed.items
-        ≡ spread rows (completed_sent prompt true None (rows_of tables.old).prompts))
-        → ((rows : List ConnRow) → completed.items
-        ≡ spread rows (completed_sent prompt false (Some stem) (rows_of tables.old).prompts))
+        (rest : List Delivery) → ((rows : List ConnRow) → rest
+        ≡ spread rows (ended_sent prompt stem fate (rows_of tables.old).prompts))
         → (fate ≡ StoreFate.Stored → SetsAlias alias stem (rows_of tables.old).collections
         (rows_of tables.old).aliases change)
         → Settles F.is_honest F.is_steady F.faults F.images
@@ -661,17 +731,17 @@ fn end_made<F: Folder>(
         F.Cell.faults F.Cell.moment F.Cell.left_since F.Cell.may_leave conn brought
         (making_ended prompt alias stem fate)
         (rows_of tables.old) (rows_of tables.new) (disk_of tables.old) (disk_of tables.new)
-        (record { made = None; done = result }) }
-    ensures sends { (result.sends ≡ dismissed.items) ⊎ (result.sends ≡ completed.items) }
+        (record { made = None; done = record result { sends = rest } }) }
+    ensures sends { result.sends ≡ sends.items }
     ensures room { tables.new.connections ≡ tables.old.connections }
     ensures rest { disk_of tables.new
         ≡ record (disk_of tables.old) { aliases = (disk_of tables.new).aliases } }
 {
     match fate {
-        StoreFate::Stored => end_completed(tables, prompt, completed, change),
+        StoreFate::Stored => end_completed(tables, prompt, sends, change),
         _ => {
             let _ended = tables.prompts.end(prompt);
-            sending(Ok(Body::Empty), dismissed)
+            sending(Ok(Body::Empty), sends)
         }
     }
 }
@@ -681,14 +751,14 @@ fn end_made<F: Folder>(
 fn end_completed<F: Folder>(
     tables: &mut Tables<F>,
     prompt: PromptId,
-    completed: Vec<Delivery>,
+    sends: Vec<Delivery>,
     change: Option<AliasChange>,
 ) -> Done
     requires there { is_some (row_at prompt (rows_of tables.old).prompts) ≡ true }
     requires prepared { IfSome change (λ change. (alias : List ℕ) × (stem : Option (List ℕ))
         × IsPreparedFor alias stem (contents_of (rows_of tables.old)) change) }
     ensures settles { (conn : ConnId) (brought : Brought) (alias stem : List ℕ)
-        → ((rows : List ConnRow) → completed.items
+        (rest : List Delivery) → ((rows : List ConnRow) → rest
         ≡ spread rows (completed_sent prompt false (Some stem) (rows_of tables.old).prompts))
         → SetsAlias alias stem (rows_of tables.old).collections (rows_of tables.old).aliases change
         → Settles F.is_honest F.is_steady F.faults F.images
@@ -696,15 +766,15 @@ fn end_completed<F: Folder>(
         F.Cell.faults F.Cell.moment F.Cell.left_since F.Cell.may_leave conn brought
         (alias_given prompt alias stem)
         (rows_of tables.old) (rows_of tables.new) (disk_of tables.old) (disk_of tables.new)
-        (record { made = None; done = result }) }
-    ensures sends { result.sends ≡ completed.items }
+        (record { made = None; done = record result { sends = rest } }) }
+    ensures sends { result.sends ≡ sends.items }
     ensures room { tables.new.connections ≡ tables.old.connections }
     ensures rest { disk_of tables.new
         ≡ record (disk_of tables.old) { aliases = (disk_of tables.new).aliases } }
 {
     let set = set_new_alias(tables, change);
     let _ended = tables.prompts.end(prompt);
-    set.followed(completed)
+    set.followed(sends)
 }
 
 // Sets the alias of a collection that was made, if a change was prepared for it. It takes no memory.

@@ -6,6 +6,7 @@
 #![tactic(auto)]
 
 mod answering;
+mod changing;
 mod derived_key;
 
 pub use answering::{answer_prompt, password_in, work_of};

@@ -1,5 +1,5 @@
 -- The test of size, the collections that are locked, and what a plan leads to whose return is too large.
-use Rattle.std.proofs.Common.{◌≡◌, ℕ, ◌+◌, ◌<◌, length, get_or, drop, Bool, true, false, cond, List, [], ◌∷◌, map, Option, Some, None, Ok, Err, IfOk, IfErr, IsSome, OnErr, refl, sym, ap, subst, ◌∙◌}
+use Rattle.std.proofs.Common.{◌≡◌, ℕ, ◌+◌, ◌<◌, length, get_or, drop, Bool, true, false, cond, List, [], ◌∷◌, map, Option, Some, None, Ok, Err, IfOk, IfErr, OnErr, refl, sym, ap, subst, ◌∙◌}
 use Rattle.std.proofs.lemmas.List.{at_drop_more}
 use Rattle.kr_base.specs.declared.ids.ConnId.{ConnId}
 use Rattle.kr_outside.specs.RenameDisk.{Image}
@@ -56,13 +56,6 @@ locks-next caller stems i stem here next start more is locked so_far =
     ∙ sym (at_drop_more (λ left. performed_all caller (map Lock_collection left) here) stems i stem more)
     ∙ so_far
 
--- ---- an edit that can be made
-
--- what is there is something
-pub there-is : {A : Type 0} (o : Option A) → IsSome o → (x : A) × (o ≡ Some x)
-there-is (Some x) there = (x, refl)
-there-is None there = absurd (let no : false ≡ true = there in cc)
-
 -- ---- a return that is too large
 
 -- whatever the effect of a call is, it has none if its return is too large
@@ -80,12 +73,12 @@ module _ {F S : Type 0} (folder_honest folder_steady : F → Bool) (folder_fault
 
   pub leads-no_effect : (effect : Effect) (plan : Plan) → Plans caller brought before its effect plan → To plan
   leads-no_effect (effect.Lock stems) plan is =
-      also plan _ is (leads-large folder_honest folder_steady folder_faults images folder_leaves names_made is_honest is_steady faults moment left_since may_leave caller brought before before disk disk its (map Lock_collection stems.items) large refl refl)
-  leads-no_effect (effect.Begin owner kind) plan (owned, is) =
+      also plan _ is (leads-large folder_honest folder_steady folder_faults images folder_leaves names_made is_honest is_steady faults moment left_since may_leave caller brought before before disk disk its (map Lock_collection stems.stems) large refl refl)
+  leads-no_effect (effect.Begin kind) plan is =
       let pass : (b : Bool) → To (cond b (refused name.LimitsExceeded) (answered its (Begin_prompt kind ∷ []))) =
       elim [ true ↦ refuses | false ↦ leads-large folder_honest folder_steady folder_faults images folder_leaves names_made is_honest is_steady faults moment left_since may_leave caller brought before before disk disk its (Begin_prompt kind ∷ []) large refl refl ] in
       also plan (with_new_prompt true (λ _. its) kind (asked caller brought before)) is (pass (asked caller brought before).prompts.is_full)
-  leads-no_effect (effect.Store stem change now) plan (edit, brings, at, is) =
+  leads-no_effect (effect.Store stem change answer now) plan (edit, brings, at, is) =
       let pass : (o : Option Changed) → To (storing stem.now edit (λ _. its) o) =
-      elim [ None ↦ refuses | Some answer ↦ leads-unasked folder_honest folder_steady folder_faults images folder_leaves names_made is_honest is_steady faults moment left_since may_leave caller brought before before disk disk (Store stem.now edit) its large refl refl ] in
+      elim [ None ↦ refuses | Some made ↦ leads-unasked folder_honest folder_steady folder_faults images folder_leaves names_made is_honest is_steady faults moment left_since may_leave caller brought before before disk disk (Store stem.now edit) its large refl refl ] in
       also plan _ is (pass (storable_at stem.now change now before.collections))

@@ -1,5 +1,5 @@
 -- What a call leads to, by how its plan continues.
-use Rattle.std.proofs.Common.{◌≡◌, ℕ, ◌^◌, ◌<◌, ◌≤◌, ◌==◌, Bool, true, false, cond, nat_le, IfOk, List, [], ◌∷◌, ◌++◌, length, Option, Some, None, Result, Ok, Err, refl, sym, ap, subst, ◌∙◌, arith}
+use Rattle.std.proofs.Common.{◌≡◌, ℕ, ◌^◌, ◌<◌, ◌≤◌, ◌==◌, Bool, true, false, cond, nat_le, IfOk, List, [], ◌∷◌, ◌++◌, length, Option, Some, None, Result, Ok, Err, refl, sym, ap, subst, ◌∙◌, append-nil, arith}
 use Rattle.std.proofs.lemmas.Bool.{leb-true}
 use Rattle.std.proofs.lemmas.Option.{none-some}
 use Rattle.std.specs.Option.{option_map_or}
@@ -21,8 +21,8 @@ use Rattle.service_events.specs.service_tables.specs.declared.fate.StoreFate.{St
 use Rattle.service_events.specs.service_tables.specs.declared.fate.StoreFate.TheVariants as stored
 use Rattle.service_events.specs.secret_calls.specs.declared.out.Out.{Out}
 use Rattle.service_events.specs.service_tables.specs.declared.rows.ConnRows.{ConnRows}
-use Rattle.service_events.specs.service_tables.specs.declared.rows.Delivery.{Delivery}
-use Rattle.service_events.specs.service_tables.specs.Connections.{AreDistinct, HasRoom, HasRoomFor, Rooms, delivered, handed, has, outs_to, spread}
+use Rattle.service_events.specs.service_tables.specs.signal_fanout.specs.declared.rows.Delivery.{Delivery}
+use Rattle.service_events.specs.service_tables.specs.Connections.{AreDistinct, HasRoom, HasRoomFor, KeepRooms, Rooms, count_to, delivered, handed, has, outs_to, spread}
 use Rattle.service_events.specs.service_tables.specs.Sent.{Sent}
 use Rattle.service_events.specs.service_tables.proofs.RoomLemmas.{first-room, room-less, room-same, room-zero}
 use Rattle.service_events.specs.service_tables.proofs.SpreadLemmas.{conns_of, handed-spread, spread-append}
@@ -39,7 +39,7 @@ use Rattle.service_events.specs.CollectionCalls.{by_fate, storing}
 use Rattle.service_events.specs.Plan.{Aliases_file, Answer, Change, Collection_file, Plan, Questions, Ends, Asks, Resolves, Opens, Demand, Reading, Store, answered, refused}
 use Rattle.service_events.specs.PublicBody.{PublicBody, body_with}
 use Rattle.service_events.specs.PublicBody as public
-use Rattle.service_events.specs.Run.{AreFates, AreNone, Ran, asked, bounded, by_reading, by_test, demanded, failing, filled, fits, is_in_doubt, is_small, performed_all, run, sending, sent_all, settled}
+use Rattle.service_events.specs.Run.{AreFates, AreNone, Ran, asked, bounded, by_reading, by_test, demanded, failing, filled, fits, is_in_doubt, is_small, performed_all, run, sending, sent_all, sent_asked, sent_settled, settled}
 use Rattle.service_events.specs.PromptCalls.{are_none}
 use Rattle.service_events.specs.ServiceCalls.{unlocking, with_new_prompt}
 use Rattle.service_events.specs.Fates.{reads_of, stores_of, with_fates}
@@ -101,14 +101,17 @@ large-run caller brought its changes fates state large =
 module _ (caller : ConnId) (brought : Brought) (demand : Demand) (its : PublicBody) (state : State) where
   -- what is asked of the disk is answered by how it ended
   asked-run : (some : StoreFate) → is_small (body_with its) ≡ true
-      → run caller brought (Asks demand (by_fate its)) (fate.Store some ∷ []) state ≡ record { answer = answer_by (body_with its) some; state = demanded brought demand some state; sends = [] }
+      → run caller brought (Asks demand (by_fate its)) (fate.Store some ∷ []) state
+      ≡ record { answer = answer_by (body_with its) some; state = demanded brought demand some state; sends = sent_asked brought demand some state }
   asked-run some small =
       let after = demanded brought demand some state in
-      by-true (is_small (body_with its)) (sending [] (run caller brought (by_fate its some) [] after)) (failing name.LimitsExceeded state) small ∙ ended some
+      let said = sent_asked brought demand some state in
+      by-true (is_small (body_with its)) (sending said (run caller brought (by_fate its some) [] after)) (failing name.LimitsExceeded state) small ∙ ap (sending said) (ended some)
+      ∙ ap (λ sends. record { answer = answer_by (body_with its) some; state = after; sends = sends }) (append-nil said)
     where
-      ended : (some : StoreFate) → sending [] (run caller brought (by_fate its some) [] (demanded brought demand some state))
+      ended : (some : StoreFate) → run caller brought (by_fate its some) [] (demanded brought demand some state)
           ≡ record { answer = answer_by (body_with its) some; state = demanded brought demand some state; sends = [] }
-      ended stored.Stored = ap (sending []) (answered-run caller brought its [] [] (demanded brought demand stored.Stored state) small)
+      ended stored.Stored = answered-run caller brought its [] [] (demanded brought demand stored.Stored state) small
       ended stored.Before = refl
       ended stored.Unsure = refl
 
@@ -164,17 +167,17 @@ module _ {F S : Type 0} (folder_honest folder_steady : F → Bool) (folder_fault
       }
 
   -- one that asks for a storing is answered by how that ended
-  pub leads-asked : (demand : Demand) (its : PublicBody) (some : StoreFate) → is_small (body_with its) ≡ true → after ≡ demanded brought demand some before
+  pub leads-asked : (demand : Demand) (its : PublicBody) (some : StoreFate) (sends : List Delivery) → sends ≡ spread before.connections.rows (sent_asked brought demand some before) → is_small (body_with its) ≡ true → after ≡ demanded brought demand some before
       → StoresDemand folder_honest folder_steady folder_faults images folder_leaves names_made is_honest is_steady faults moment left_since may_leave demand some (contents_of before) (contents_of (demanded brought demand some before)) old new
-      → To (Asks demand (by_fate its)) (record { answer = answer_by (body_with its) some; sends = []; read = None; fate = Some some })
-  leads-asked demand its some small state at =
+      → To (Asks demand (by_fate its)) (record { answer = answer_by (body_with its) some; sends = sends; read = None; fate = Some some })
+  leads-asked demand its some sends said small state at =
       let ran = sym (asked-run caller brought demand its before some small) in
       let ended : (some : StoreFate) → StoresOf folder_honest folder_steady folder_faults images folder_leaves names_made is_honest is_steady faults moment left_since may_leave caller brought (by_fate its some) [] (demanded brought demand some before) new new =
       elim [ stored.Stored ↦ refl | stored.Before ↦ refl | stored.Unsure ↦ refl ] in
       record {
         answer = ap (λ (r : Ran). r.answer) ran;
         state = state ∙ ap (λ (r : Ran). r.state) ran;
-        sends = ap (λ (r : Ran). spread before.connections.rows r.sends) ran;
+        sends = said ∙ ap (λ (r : Ran). spread before.connections.rows r.sends) ran;
         fates = held (is_small (body_with its)) _ _ small (asked-fates caller brought demand its before some);
         disk = held (is_small (body_with its)) _ _ small (new, at, ended some);
       }
@@ -253,10 +256,10 @@ module _ {F S : Type 0} (folder_honest folder_steady : F → Bool) (folder_fault
     only = ap (λ r. reads_of r ++ stores_of done.fate) none
 
     ran-read : (some : ReadFate) → run caller brought its_plan (fate.Read some ∷ stores_of done.fate) before
-        ≡ sending [] (run caller brought (after_read some) (stores_of done.fate) (settled reading some before))
+        ≡ sending (sent_settled reading some before) (run caller brought (after_read some) (stores_of done.fate) (settled reading some before))
     ran-read some =
         by-true (is_in_doubt reading before) _ _ doubt
-        ∙ ap (sending []) (pass some)
+        ∙ ap (sending (sent_settled reading some before)) (pass some)
       where
         pass : (some : ReadFate) → by_reading some (run caller brought unread (stores_of done.fate) (settled reading some before))
             (run caller brought (next (asked caller brought (settled reading some before))) (stores_of done.fate) (settled reading some before))
@@ -282,10 +285,10 @@ module _ {F S : Type 0} (folder_honest folder_steady : F → Bool) (folder_fault
     disk-read read.Other stores = stores
     disk-read read.ReadFailed stores = stores
 
-    settles-doubt : (some : ReadFate) → StoresReading folder_honest folder_steady folder_faults images folder_leaves names_made is_honest is_steady faults moment left_since may_leave reading some (contents_of before) (contents_of (settled reading some before)) old mid
+    settles-doubt : (some : ReadFate) (sends : List Delivery) → sends ≡ spread before.connections.rows (sent_settled reading some before) ++ done.sends → StoresReading folder_honest folder_steady folder_faults images folder_leaves names_made is_honest is_steady faults moment left_since may_leave reading some (contents_of before) (contents_of (settled reading some before)) old mid
         → Leads folder_honest folder_steady folder_faults images folder_leaves names_made is_honest is_steady faults moment left_since may_leave caller brought (after_read some) (settled reading some before) after mid new done
-        → Leads folder_honest folder_steady folder_faults images folder_leaves names_made is_honest is_steady faults moment left_since may_leave caller brought its_plan before after old new (record { answer = done.answer; sends = done.sends; read = Some some; fate = done.fate })
-    settles-doubt some stores leads =
+        → Leads folder_honest folder_steady folder_faults images folder_leaves names_made is_honest is_steady faults moment left_since may_leave caller brought its_plan before after old new (record { answer = done.answer; sends = sends; read = Some some; fate = done.fate })
+    settles-doubt some sends said stores leads =
         let after_state = settled reading some before in
         let its = after_read some in
         let ran : run caller brought its (fates_in done) after_state ≡ run caller brought its (stores_of done.fate) after_state = ap (λ f. run caller brought its f after_state) only in
@@ -293,8 +296,11 @@ module _ {F S : Type 0} (folder_honest folder_steady : F → Bool) (folder_fault
         record {
           answer = leads.answer ∙ ap (λ (r : Ran). r.answer) ran ∙ ap (λ (r : Ran). r.answer) (sym whole);
           state = leads.state ∙ ap (λ (r : Ran). r.state) ran ∙ ap (λ (r : Ran). r.state) (sym whole);
-          sends = leads.sends ∙ ap (λ (r : Ran). spread after_state.connections.rows r.sends) ran
-              ∙ ap (λ (c : ConnRows). spread c.rows (run caller brought its (stores_of done.fate) after_state).sends) (connections-settled reading some before)
+          sends = said
+              ∙ ap (λ ds. spread before.connections.rows (sent_settled reading some before) ++ ds)
+              (leads.sends ∙ ap (λ (r : Ran). spread after_state.connections.rows r.sends) ran
+              ∙ ap (λ (c : ConnRows). spread c.rows (run caller brought its (stores_of done.fate) after_state).sends) (connections-settled reading some before))
+              ∙ sym (spread-append before.connections.rows (sent_settled reading some before) (run caller brought its (stores_of done.fate) after_state).sends)
               ∙ ap (λ (r : Ran). spread before.connections.rows r.sends) (sym whole);
           fates = held (is_in_doubt reading before) _ _ doubt (fates-read some (subst (λ f. AreFates caller brought its f after_state) only leads.fates));
           disk = held (is_in_doubt reading before) _ _ doubt
@@ -302,27 +308,31 @@ module _ {F S : Type 0} (folder_honest folder_steady : F → Bool) (folder_fault
         }
 
     -- it was read
-    pub settles-read : (some : ReadFate) → (IsReadFault some → ⊥) → StoresReading folder_honest folder_steady folder_faults images folder_leaves names_made is_honest is_steady faults moment left_since may_leave reading some (contents_of before) (contents_of (settled reading some before)) old mid
+    pub settles-read : (some : ReadFate) → (IsReadFault some → ⊥) → (sends : List Delivery) → sends ≡ spread before.connections.rows (sent_settled reading some before) ++ done.sends → StoresReading folder_honest folder_steady folder_faults images folder_leaves names_made is_honest is_steady faults moment left_since may_leave reading some (contents_of before) (contents_of (settled reading some before)) old mid
         → Leads folder_honest folder_steady folder_faults images folder_leaves names_made is_honest is_steady faults moment left_since may_leave caller brought (next (asked caller brought (settled reading some before))) (settled reading some before) after mid new done
-        → Leads folder_honest folder_steady folder_faults images folder_leaves names_made is_honest is_steady faults moment left_since may_leave caller brought its_plan before after old new (record { answer = done.answer; sends = done.sends; read = Some some; fate = done.fate })
-    settles-read read.Old well stores leads = settles-doubt read.Old stores leads
-    settles-read read.New well stores leads = settles-doubt read.New stores leads
-    settles-read read.Other well stores leads = settles-doubt read.Other stores leads
-    settles-read read.ReadFailed well stores leads = absurd (well tt)
+        → Leads folder_honest folder_steady folder_faults images folder_leaves names_made is_honest is_steady faults moment left_since may_leave caller brought its_plan before after old new (record { answer = done.answer; sends = sends; read = Some some; fate = done.fate })
+    settles-read read.Old well sends said stores leads = settles-doubt read.Old sends said stores leads
+    settles-read read.New well sends said stores leads = settles-doubt read.New sends said stores leads
+    settles-read read.Other well sends said stores leads = settles-doubt read.Other sends said stores leads
+    settles-read read.ReadFailed well sends said stores leads = absurd (well tt)
 
     -- it couldn't be read
-    pub settles-unread : (some : ReadFate) → some ≡ read.ReadFailed → StoresReading folder_honest folder_steady folder_faults images folder_leaves names_made is_honest is_steady faults moment left_since may_leave reading some (contents_of before) (contents_of (settled reading some before)) old mid
+    pub settles-unread : (some : ReadFate) → some ≡ read.ReadFailed → (sends : List Delivery) → sends ≡ spread before.connections.rows (sent_settled reading some before) ++ done.sends → StoresReading folder_honest folder_steady folder_faults images folder_leaves names_made is_honest is_steady faults moment left_since may_leave reading some (contents_of before) (contents_of (settled reading some before)) old mid
         → Leads folder_honest folder_steady folder_faults images folder_leaves names_made is_honest is_steady faults moment left_since may_leave caller brought unread (settled reading some before) after mid new done
-        → Leads folder_honest folder_steady folder_faults images folder_leaves names_made is_honest is_steady faults moment left_since may_leave caller brought its_plan before after old new (record { answer = done.answer; sends = done.sends; read = Some some; fate = done.fate })
-    settles-unread some is stores leads =
+        → Leads folder_honest folder_steady folder_faults images folder_leaves names_made is_honest is_steady faults moment left_since may_leave caller brought its_plan before after old new (record { answer = done.answer; sends = sends; read = Some some; fate = done.fate })
+    settles-unread some is sends said stores leads =
         let goes : after_read some ≡ unread = ap (λ s. by_reading s unread (next (asked caller brought (settled reading some before)))) is in
-        settles-doubt some stores (subst (λ p. Leads folder_honest folder_steady folder_faults images folder_leaves names_made is_honest is_steady faults moment left_since may_leave caller brought p (settled reading some before) after mid new done) (sym goes) leads)
+        settles-doubt some sends said stores (subst (λ p. Leads folder_honest folder_steady folder_faults images folder_leaves names_made is_honest is_steady faults moment left_since may_leave caller brought p (settled reading some before) after mid new done) (sym goes) leads)
 
 -- ---- room for what is sent
 
 -- what was sent is what room was made for
 pub room-sent : (caller : ConnId) (lent sent sends : List Delivery) (rooms : Rooms) → lent ≡ sent → sends ≡ sent → HasRoomToReply caller lent rooms → HasRoomToReply caller sends rooms
 room-sent caller lent sent sends rooms first second room = subst (λ s. HasRoomToReply caller s rooms) (first ∙ sym second) room
+
+-- room that is kept is still there
+pub room-keeps : (caller : ConnId) (sends : List Delivery) (old new : Rooms) → KeepRooms old new → HasRoomToReply caller sends old → HasRoomToReply caller sends new
+room-keeps caller sends old new keeps room reply conn = keeps (count_to conn (record { to = caller; out = reply } ∷ sends)) conn (room reply conn)
 
 -- room for one output is room for the reply alone
 pub room-to-reply : (caller : ConnId) (rooms : Rooms) → HasRoom 1 caller rooms → HasRoomToReply caller [] rooms

@@ -1,22 +1,51 @@
 -- A prompt that passes over its first targets: one after the other, or all at once.
 use Rattle.std.proofs.Common.{◌≡◌, ℕ, ◌<◌, Bool, true, false, cond, nat_eq, IfSome, List, [], ◌∷◌, ◌++◌, map, find, Option, Some, refl, sym, ap, subst, ◌∙◌, arith}
+use Rattle.std.specs.Cmp.Lexicographic.{slice_cmp}
 use Rattle.std.specs.List.{AllByRecursion}
+use Rattle.std.specs.Option.{is_some, option_map_or}
+use Rattle.std.specs.Ordering.{nat_cmp}
 use Rattle.std.proofs.lemmas.Bool.{eqb-true}
 use Rattle.std.proofs.lemmas.Bool.Decides.{nat_tests}
+use Rattle.std.proofs.lemmas.Map.Lookups.{exact_bytes}
+use Rattle.kr_base.specs.Attributes.{is_name}
+use Rattle.kr_base.proofs.OrderedLemmas.{is_equal}
 use Rattle.kr_base.specs.declared.ids.PromptId.{PromptId}
 use Rattle.prompt_state.specs.Prompts.{AreRising, AreSound, changed, first_of_kind, first_of_row, is_prompt, kind_with, row_at, targeted}
 use Rattle.prompt_state.specs.Targets.{TargetLists, first_done, first_dropped, first_of, rest_of, with_first_of}
 use Rattle.prompt_state.specs.declared.row.PromptKind.{PromptKind}
-use Rattle.prompt_state.specs.declared.row.PromptKind.TheVariants.{Unlock, Create}
+use Rattle.prompt_state.specs.declared.row.PromptKind.TheVariants.{Unlock, Create, Change}
 use Rattle.prompt_state.specs.declared.row.PromptRow.{PromptRow}
 use Rattle.prompt_state.specs.declared.row.Prompts.{Prompts}
 use Rattle.prompt_state.specs.declared.targets.Target.{Target}
+use Rattle.service_events.specs.collection_table.specs.Entries.{without}
+use Rattle.service_events.specs.collection_table.specs.Rows.{Rows, has, is_open, is_unlocked}
+use Rattle.service_events.specs.service_tables.proofs.DiskLemmas.{without-apart, without-here}
 use Rattle.service_events.specs.service_tables.specs.Opened.{contents_of}
 use Rattle.service_events.specs.service_tables.specs.Reading.{asked_collections}
 use Rattle.service_events.specs.service_tables.specs.State.{State}
 use Rattle.service_events.specs.service_tables.specs.Questions.{CollectionQuestions}
 use Rattle.service_events.specs.PromptCalls.{passed, passed_kind, passed_over, passed_row}
 use Rattle.service_events.proofs.AdvanceLemmas.{KeepsPrompt}
+
+-- ---- a collection that counts as gone
+
+module _ (stem : List ℕ) (rows : Rows) where
+  -- the collection of the stem isn't there, and any other one is as it was
+  pub has-same : (other : List ℕ) → is_name stem other ≡ true → false ≡ has other (without stem rows)
+  has-same other is =
+      let here : stem ≡ other = exact_bytes stem other (is_equal (slice_cmp nat_cmp stem other) is) in
+      sym (ap is_some (without-here stem rows)) ∙ ap (λ s. has s (without stem rows)) here
+
+  pub open-same : (other : List ℕ) → is_name stem other ≡ true → false ≡ is_open other (without stem rows)
+  open-same other is =
+      let here : stem ≡ other = exact_bytes stem other (is_equal (slice_cmp nat_cmp stem other) is) in
+      sym (ap (λ o. option_map_or is_unlocked o false) (without-here stem rows)) ∙ ap (λ s. is_open s (without stem rows)) here
+
+  pub has-apart : (other : List ℕ) → is_name stem other ≡ false → has other rows ≡ has other (without stem rows)
+  has-apart other off = ap is_some (sym (without-apart stem other rows off))
+
+  pub open-apart : (other : List ℕ) → is_name stem other ≡ false → is_open other rows ≡ is_open other (without stem rows)
+  open-apart other off = ap (λ o. option_map_or is_unlocked o false) (sym (without-apart stem other rows off))
 
 -- ---- a prompt that changes
 
@@ -86,6 +115,7 @@ module _ (asked : CollectionQuestions) where
   drop-kind : (k : PromptKind) (target : Target) → first_of_kind k ≡ Some target → asked.has target.stem ≡ false → passed_kind asked (kind_with first_dropped k) ≡ passed_kind asked k
   drop-kind (Unlock targets) target first gone = ap Unlock (drop-left targets.left targets.done target first gone)
   drop-kind (Create label alias salt) target first gone = refl
+  drop-kind (Change stem salt) target first gone = refl
 
   done-left : (left done : List Target) (target : Target) → first_of left ≡ Some target → asked.has target.stem ≡ true → asked.is_open target.stem ≡ true
       → passed asked (with_first_of left done) (rest_of left) ≡ passed asked done left
@@ -100,6 +130,7 @@ module _ (asked : CollectionQuestions) where
       → passed_kind asked (kind_with first_done k) ≡ passed_kind asked k
   done-kind (Unlock targets) target first there unlocked = ap Unlock (done-left targets.left targets.done target first there unlocked)
   done-kind (Create label alias salt) target first there unlocked = refl
+  done-kind (Change stem salt) target first there unlocked = refl
 
   -- a target that isn't passed over
   abbrev Stays : Target → Type 0
@@ -112,6 +143,7 @@ module _ (asked : CollectionQuestions) where
   stay-kind : (k : PromptKind) → IfSome (first_of_kind k) Stays → passed_kind asked k ≡ k
   stay-kind (Unlock targets) stays = ap Unlock (stay-left targets.left targets.done stays)
   stay-kind (Create label alias salt) stays = refl
+  stay-kind (Change stem salt) stays = refl
 
   -- ---- the prompts
 

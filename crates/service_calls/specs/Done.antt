@@ -10,7 +10,7 @@ use Rattle.service_events.specs.secret_calls.specs.declared.out.Out.{Out}
 use Rattle.service_events.specs.service_tables.specs.declared.fate.Fate.{Fate}
 use Rattle.service_events.specs.service_tables.specs.declared.fate.StoreFate.{StoreFate}
 use Rattle.service_events.specs.service_tables.specs.declared.fate.StoreFate.TheVariants as fate
-use Rattle.service_events.specs.service_tables.specs.declared.rows.Delivery.{Delivery}
+use Rattle.service_events.specs.service_tables.specs.signal_fanout.specs.declared.rows.Delivery.{Delivery}
 use Rattle.service_events.specs.service_tables.specs.Connections.{HasRoomFor, Rooms, spread}
 use Rattle.service_events.specs.service_tables.specs.Disk.{DiskState}
 use Rattle.service_events.specs.service_tables.specs.State.{State}
@@ -38,7 +38,7 @@ reads caller state (Asks demand next) = None
 reads caller state (Resolves reading unread next) = None
 reads caller state (Opens stem terms next) = None
 
--- how what a call asked for ended: a resolve first, and then a storing
+-- how what a call asked for ended: first the resolve of a file, and then storing one
 abbrev pub fates_in : Done → List Fate
 fates_in done = reads_of done.read ++ stores_of done.fate
 
@@ -47,6 +47,12 @@ abbrev pub answer_by : Body → StoreFate → Result Body ErrorName
 answer_by body fate.Stored = Ok body
 answer_by body fate.Before = Err name.IOError
 answer_by body fate.Unsure = Err name.IOError
+
+-- what is sent after a file was to be stored, by how that ended
+abbrev pub said_by : List Delivery → List Delivery → StoreFate → List Delivery
+said_by done perhaps fate.Stored = done
+said_by done perhaps fate.Before = []
+said_by done perhaps fate.Unsure = perhaps
 
 -- what an edit returns
 abbrev pub body_of : Returned → List ℕ → Changed → PublicBody

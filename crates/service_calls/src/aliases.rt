@@ -65,7 +65,7 @@ impl<F: Folder> Tables<F> {
             ≡ record (disk_of self.old) { aliases = (disk_of self.new).aliases } }
     {
         match self.disk.store_aliases(change) {
-            Some(fate) => ended(self.alloc, Body::Empty, fate),
+            Some(fate) => ended(Body::Empty, fate, Vec::new(self.alloc)),
             None => refused(self.alloc, ErrorName::LimitsExceeded),
         }
     }

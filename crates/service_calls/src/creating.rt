@@ -5,7 +5,8 @@ ghost use Rattle.kr_base.specs.declared.ids.ConnId.{ConnId};
 ghost use Rattle.service_calls.specs.Rows.{disk_of, rows_of};
 ghost use Rattle.service_events.specs.Run.{asked};
 ghost use Rattle.service_events.specs.ServiceCalls.{create_collection, creating};
-ghost use Rattle.service_calls.specs.Done.{Leads};
+ghost use Rattle.service_calls.specs.Done.{HasRoomToReply, Leads};
+ghost use Rattle.service_events.specs.service_tables.specs.Connections.{HasRoom};
 ghost use Rattle.service_events.specs.service_tables.specs.Opened.{contents_of};
 ghost use Rattle.service_events.specs.service_tables.specs.Reading.{asked_collections};
 ghost use Rattle.service_events.specs.service_tables.specs.Storing.{Brought};
@@ -50,6 +51,7 @@ impl<F: Folder> Tables<F> {
         alias: &Option<AliasName>,
         salt: [u8; 8],
     ) -> Result<Done, OutOfMemory>
+        requires { HasRoom 1 conn self.old.connections.rooms }
         ensures leads { IfOk result (λ done. (brought : Brought)
             → Leads F.is_honest F.is_steady F.faults F.images
             F.may_leave F.made F.Cell.is_honest F.Cell.is_steady
@@ -57,8 +59,8 @@ impl<F: Folder> Tables<F> {
             F.Cell.left_since F.Cell.may_leave conn brought
             (creating label.now alias.now salt (asked conn brought (rows_of self.old)))
             (rows_of self.old) (rows_of self.new) (disk_of self.old) (disk_of self.new) done) }
-        ensures silent { IfOk result (λ done. done.sends ≡ []) }
-        ensures room { self.new.connections ≡ self.old.connections }
+        ensures room { IfOk result (λ done.
+            HasRoomToReply conn done.sends self.new.connections.rooms) }
         ensures unchanged { OnErr result ((rows_of self.new ≡ rows_of self.old)
             × (disk_of self.new ≡ disk_of self.old)) }
     {
@@ -85,6 +87,7 @@ impl<F: Folder> Tables<F> {
         alias: &Option<AliasName>,
         salt: [u8; 8],
     ) -> Result<Done, OutOfMemory>
+        requires { HasRoom 1 conn self.old.connections.rooms }
         ensures leads { IfOk result (λ done. (brought : Brought)
             → Leads F.is_honest F.is_steady F.faults F.images
             F.may_leave F.made F.Cell.is_honest F.Cell.is_steady
@@ -92,8 +95,8 @@ impl<F: Folder> Tables<F> {
             F.Cell.left_since F.Cell.may_leave conn brought
             (create_collection label.now alias.now salt (asked conn brought (rows_of self.old)))
             (rows_of self.old) (rows_of self.new) (disk_of self.old) (disk_of self.new) done) }
-        ensures silent { IfOk result (λ done. done.sends ≡ []) }
-        ensures room { self.new.connections ≡ self.old.connections }
+        ensures room { IfOk result (λ done.
+            HasRoomToReply conn done.sends self.new.connections.rooms) }
         ensures unchanged { OnErr result ((rows_of self.new ≡ rows_of self.old)
             × (disk_of self.new ≡ disk_of self.old)) }
     {

@@ -7,11 +7,13 @@
 
 mod agent;
 mod aliases;
+mod announcing;
 mod answer;
 mod collection;
 mod creating;
 mod effect;
 mod item;
+mod keyring;
 mod prompt;
 mod properties;
 mod service;

@@ -3,14 +3,16 @@ ghost use Rattle.std.specs.Prelude.{◌≡◌, ◌+◌, ◌∷◌, ◌≤◌, Li
 ghost use Rattle.std.specs.Option.{is_some, option_copied};
 ghost use Rattle.kr_base.specs.declared.ids.ConnId.{ConnId};
 ghost use Rattle.kr_base.specs.declared.ids.PromptId.{PromptId};
+ghost use Rattle.kr_base.specs.Attributes.{is_name};
+ghost use Rattle.service_events.specs.collection_table.specs.Entries.{without};
 ghost use Rattle.service_events.specs.collection_table.specs.Rows.{has, is_open};
 ghost use Rattle.prompt_state.specs.Prompts.{AreSound, first_of_row, last_round, next_round, round_of, row_at};
 ghost use Rattle.service_events.specs.AnswerCalls.{going_on};
 ghost use Rattle.service_events.specs.Plan.{End_prompt, Go_on, answered};
-ghost use Rattle.service_events.specs.PromptCalls.{advance_sent, are_none, call_prompt, dismiss, is_made_row, is_over, is_over_row, passed, passed_kind, passed_over};
+ghost use Rattle.service_events.specs.PromptCalls.{advance_sent, are_none, call_prompt, dismiss, is_given_up, is_made_row, is_over, is_over_row, passed, passed_kind, passed_over};
 ghost use Rattle.service_events.specs.PublicBody.{PublicBody, body_with};
 ghost use Rattle.service_events.specs.PublicBody as public;
-ghost use Rattle.service_calls.specs.Rows.{disk_of, rows_of};
+ghost use Rattle.service_calls.specs.Rows.{contents_left, disk_of, rows_of};
 ghost use Rattle.service_events.specs.Run.{asked, performed, sent_by};
 ghost use Rattle.service_events.specs.ServiceCalls.{next_prompt, with_new_prompt};
 ghost use Rattle.service_calls.specs.Done.{HasRoomToReply, Leads};
@@ -19,7 +21,7 @@ ghost use Rattle.service_events.specs.service_tables.specs.Disk.{contents_in};
 ghost use Rattle.service_events.specs.service_tables.specs.Opened.{contents_of};
 ghost use Rattle.service_events.specs.service_tables.specs.Reading.{asked_collections};
 ghost use Rattle.service_events.specs.service_tables.specs.Storing.{Brought};
-ghost use Rattle.service_events.specs.service_tables.specs.declared.rows.ConnRow.{ConnRow};
+ghost use Rattle.service_events.specs.service_tables.specs.signal_fanout.specs.declared.rows.ConnRow.{ConnRow};
 
 use crate::Tables;
 use crate::effect::Effect;
@@ -30,6 +32,7 @@ use prompt_state::{Ask, PromptKind, PromptRow, PromptState, Target, Targets};
 use service_events::secret_calls::{Body, ErrorName};
 use service_events::service_prompts::{ask_signal, completed_sent, completed_signal};
 use service_events::service_tables::{Delivery, Disk};
+use std::cmp::Ordering;
 
 // The first target of a prompt that is left. Shows that no two prompts have one number.
 fn first_open(prompts: &PromptState, prompt: PromptId) -> Option<&Target>
@@ -42,15 +45,68 @@ fn first_open(prompts: &PromptState, prompt: PromptId) -> Option<&Target>
     }
 }
 
+// Whether a stem is the other one.
+fn is_same(stem: &Stem, other: &Stem) -> bool
+    ensures { result ≡ is_name stem.now other.now }
+{
+    match stem.cmp(other) {
+        Ordering::Equal => true,
+        _ => false,
+    }
+}
+
+// Whether there is a collection of the other stem, if that of a stem were gone.
+fn has_without<F: Folder>(disk: &Disk<F>, stem: &Stem, other: &Stem) -> bool
+    ensures { result ≡ has other.now (without stem.now (contents_in disk.now).collections) }
+{
+    if is_same(stem, other) {
+        return false;
+    }
+    disk.collections.has(other)
+}
+
+// Whether it is unlocked.
+fn is_open_without<F: Folder>(disk: &Disk<F>, stem: &Stem, other: &Stem) -> bool
+    ensures { result ≡ is_open other.now (without stem.now (contents_in disk.now).collections) }
+{
+    if is_same(stem, other) {
+        return false;
+    }
+    disk.collections.is_open(other)
+}
+
+// Whether there is a collection of the stem; that of the stem `gone`, if one is given, counts as gone.
+fn has_left<F: Folder>(disk: &Disk<F>, gone: &Option<Stem>, stem: &Stem) -> bool
+    ensures { result ≡ has stem.now
+        (contents_left gone.now (contents_in disk.now)).collections }
+{
+    match gone {
+        Some(gone) => has_without(disk, gone, stem),
+        None => disk.collections.has(stem),
+    }
+}
+
+// Whether it is unlocked.
+fn is_open_left<F: Folder>(disk: &Disk<F>, gone: &Option<Stem>, stem: &Stem) -> bool
+    ensures { result ≡ is_open stem.now
+        (contents_left gone.now (contents_in disk.now)).collections }
+{
+    match gone {
+        Some(gone) => is_open_without(disk, gone, stem),
+        None => disk.collections.is_open(stem),
+    }
+}
+
 // Passes over the first targets that are left: each whose collection is gone is dropped, and each whose collection
-// is unlocked is done. It takes no memory.
-fn pass_over<F: Folder>(disk: &Disk<F>, targets: &mut Targets)
-    ensures { targets.new ≡ passed (asked_collections (contents_in disk.now))
+// is unlocked is done. The collection of the stem `gone`, if one is given, counts as gone. It takes no memory.
+fn pass_over<F: Folder>(disk: &Disk<F>, gone: &Option<Stem>, targets: &mut Targets)
+    ensures { targets.new ≡ passed
+        (asked_collections (contents_left gone.now (contents_in disk.now)))
         targets.old.done targets.old.left }
 {
     while let Some(target) = targets.first() {
-        let there = disk.collections.has(&target.stem);
-        let open = disk.collections.is_open(&target.stem);
+        let there = has_left(disk, gone, &target.stem);
+        let open = is_open_left(disk, gone, &target.stem);
         if there && !open {
             return;
         }
@@ -63,12 +119,15 @@ fn pass_over<F: Folder>(disk: &Disk<F>, targets: &mut Targets)
 }
 
 /// The same for what a prompt is for.
-pub fn pass_kind<F: Folder>(disk: &Disk<F>, kind: &mut PromptKind)
-    ensures { kind.new ≡ passed_kind (asked_collections (contents_in disk.now)) kind.old }
+pub fn pass_kind<F: Folder>(disk: &Disk<F>, gone: &Option<Stem>, kind: &mut PromptKind)
+    ensures { kind.new ≡ passed_kind
+        (asked_collections (contents_left gone.now (contents_in disk.now)))
+        kind.old }
 {
     match kind {
-        PromptKind::Unlock(targets) => pass_over(disk, targets),
+        PromptKind::Unlock(targets) => pass_over(disk, gone, targets),
         PromptKind::Create { .. } => {}
+        PromptKind::Change { .. } => {}
     }
 }
 
@@ -82,13 +141,27 @@ pub fn are_none(targets: &[Target]) -> bool
     }
 }
 
-// Whether there is nothing more to ask for.
-fn is_over(kind: &PromptKind) -> bool
-    ensures { result ≡ is_over kind.now }
+// Whether there is nothing more to ask for; the collection of the stem `gone`, if one is given, counts as gone.
+fn is_over<F: Folder>(disk: &Disk<F>, gone: &Option<Stem>, kind: &PromptKind) -> bool
+    ensures { result ≡ is_over
+        (asked_collections (contents_left gone.now (contents_in disk.now)))
+        kind.now }
 {
     match kind {
         PromptKind::Unlock(targets) => are_none(targets.left()),
         PromptKind::Create { .. } => false,
+        PromptKind::Change { stem, .. } => !is_open_left(disk, gone, stem),
+    }
+}
+
+// Whether a prompt of this kind is dismissed once there is nothing more to ask for.
+fn is_given_up(kind: &PromptKind) -> bool
+    ensures { result ≡ is_given_up kind.now }
+{
+    match kind {
+        PromptKind::Unlock(_) => false,
+        PromptKind::Create { .. } => false,
+        PromptKind::Change { .. } => true,
     }
 }
 
@@ -168,6 +241,7 @@ impl<F: Folder> Tables<F> {
         body: Body,
         kind: PromptKind,
     ) -> Result<Done, OutOfMemory>
+        requires { HasRoom 1 conn self.old.connections.rooms }
         ensures leads { IfOk result (λ done. (brought : Brought)
             (returned : Option PromptId → PublicBody)
             → body ≡ body_with (returned
@@ -178,15 +252,15 @@ impl<F: Folder> Tables<F> {
             F.Cell.left_since F.Cell.may_leave conn brought
             (with_new_prompt fits returned kind (asked conn brought (rows_of self.old)))
             (rows_of self.old) (rows_of self.new) (disk_of self.old) (disk_of self.new) done) }
-        ensures silent { IfOk result (λ done. done.sends ≡ []) }
-        ensures room { self.new.connections ≡ self.old.connections }
+        ensures room { IfOk result (λ done.
+            HasRoomToReply conn done.sends self.new.connections.rooms) }
         ensures unchanged { OnErr result ((rows_of self.new ≡ rows_of self.old)
             × (disk_of self.new ≡ disk_of self.old)) }
     {
         if !fits {
             return Ok(refused(self.alloc, ErrorName::LimitsExceeded));
         }
-        self.perform_if_small(body, Effect::Begin(conn, kind))
+        self.perform_if_small(conn, body, Effect::Begin(kind))
     }
 
     // Whether there is such a prompt, on which Prompt hasn't been called yet.
@@ -236,28 +310,33 @@ impl<F: Folder> Tables<F> {
             unreachable!();
         };
         let mut kind = row.kind.copy()?;
-        pass_kind(&self.disk, &mut kind);
-        self.advance_sent(row, row.wrong, &kind)
+        let gone: Option<Stem> = None;
+        pass_kind(&self.disk, &gone, &mut kind);
+        self.advance_sent(row, row.wrong, &gone, &kind)
     }
 
-    /// What is sent when a prompt advances that has a next round, once its first targets are passed over, with so
-    /// many wrong answers.
+    /// What is sent when a prompt that has a next round advances, once its first targets are passed over, with so
+    /// many wrong answers. The collection of the stem `gone`, if one is given, counts as gone.
     pub fn advance_sent(
         &self,
         row: &PromptRow,
         wrong: u32,
+        gone: &Option<Stem>,
         kind: &PromptKind,
     ) -> Result<Vec<Delivery>, OutOfMemory>
         requires { round_of row.now.stage + 1 ≤ last_round }
         ensures { IfOk result (λ sends. (rows : List ConnRow) → sends.items
-            ≡ spread rows (advance_sent (rows_of self.now).collections
+            ≡ spread rows (advance_sent (asked_collections (contents_left gone.now
+            (contents_of (rows_of self.now))))
+            (rows_of self.now).collections
             (record row.now { wrong = wrong }) kind.now
             (rows_of self.now).prompts.agent)) }
     {
         let mut sends = Vec::with_capacity(self.alloc, 1)?;
-        if is_over(kind) {
+        if is_over(&self.disk, gone, kind) {
             let none: Option<Stem> = None;
-            let sent = completed_signal(self.alloc, row.prompt, row.owner, kind, false, &none)?;
+            let dismissed = is_given_up(kind);
+            let sent = completed_signal(self.alloc, row.prompt, row.owner, kind, dismissed, &none)?;
             sends.push(sent)?;
             return Ok(sends);
         }
@@ -323,10 +402,11 @@ impl<F: Folder> Tables<F> {
 
     // Whether there is such a prompt, and nothing more to ask for.
     fn has_ended(&self, prompt: PromptId) -> bool
-        ensures { result ≡ is_over_row (row_at prompt (rows_of self.now).prompts) }
+        ensures { result ≡ is_over_row (asked_collections (contents_of (rows_of self.now)))
+            (row_at prompt (rows_of self.now).prompts) }
     {
         match self.prompts.row(prompt) {
-            Some(row) => is_over(&row.kind),
+            Some(row) => is_over(&self.disk, &None, &row.kind),
             None => false,
         }
     }

@@ -235,7 +235,7 @@ impl<F: Folder> Tables<F> {
         }
     }
 
-    // The properties with their values, as far as the object has them.
+    // Those of the properties that the object has, with their values.
     fn all_shown(
         &self,
         holder: &Holder,

@@ -1,12 +1,14 @@
 // The calls of the interface Service.
 ghost use Rattle.std.specs.Prelude.{◌≡◌, [], Some, IfOk, OnErr};
-ghost use Rattle.service_calls.specs.Done.{Leads, reads};
+ghost use Rattle.service_calls.specs.Done.{HasRoomToReply, Leads, reads};
+ghost use Rattle.service_events.specs.service_tables.specs.Connections.{HasRoom};
 ghost use Rattle.service_calls.specs.Rows.{rows_of, disk_of};
 ghost use Rattle.service_events.specs.service_tables.specs.Storing.{Brought};
 ghost use Rattle.service_events.specs.Run.{asked};
 ghost use Rattle.service_events.specs.ServiceCalls.{is_plain, open_session, search_items, lock, get_secrets};
 
 use crate::Tables;
+use crate::announcing::in_order;
 use crate::answer::Answer;
 use crate::effect::Effect;
 use crate::storing::{Done, refused, unstored};
@@ -69,6 +71,7 @@ impl<F: Folder> Tables<F> {
 
     /// Performs the row of Lock. All memory is taken before a collection is locked.
     pub fn lock(&mut self, conn: ConnId, objects: &[ObjectName]) -> Result<Done, OutOfMemory>
+        requires { HasRoom 1 conn self.old.connections.rooms }
         ensures leads { IfOk result (λ done. (brought : Brought)
             → Leads F.is_honest F.is_steady F.faults F.images
             F.may_leave F.made F.Cell.is_honest F.Cell.is_steady
@@ -76,19 +79,19 @@ impl<F: Folder> Tables<F> {
             F.Cell.left_since F.Cell.may_leave conn brought
             (lock objects.now (asked conn brought (rows_of self.old)))
             (rows_of self.old) (rows_of self.new) (disk_of self.old) (disk_of self.new) done) }
-        ensures silent { IfOk result (λ done. done.sends ≡ []) }
-        ensures room { self.new.connections ≡ self.old.connections }
+        ensures room { IfOk result (λ done.
+            HasRoomToReply conn done.sends self.new.connections.rooms) }
         ensures unchanged { OnErr result ((rows_of self.new ≡ rows_of self.old)
             × (disk_of self.new ≡ disk_of self.old)) }
     {
-        let _ = conn;
-        let stems = self.disk.collections_around(self.alloc, objects)?;
+        let around = self.disk.collections_around(self.alloc, objects)?;
+        let stems = in_order(self.alloc, &around)?;
         let paths = self.disk.those_there(self.alloc, objects)?;
         let body = Body::ObjectsAndPrompt {
             objects: Items::new(paths),
             prompt: None,
         };
-        self.perform_if_small(body, Effect::Lock(stems))
+        self.perform_if_small(conn, body, Effect::Lock(stems))
     }
 
     /// Answers GetSecrets as its row does, whatever the size of the return.

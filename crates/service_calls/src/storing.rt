@@ -11,7 +11,8 @@ ghost use Rattle.service_events.specs.ItemCalls.{delete_item, set_secret};
 ghost use Rattle.service_calls.specs.Rows.{disk_of, rows_of};
 ghost use Rattle.service_events.specs.PublicBody.{body_with};
 ghost use Rattle.service_events.specs.Run.{asked};
-ghost use Rattle.service_calls.specs.Done.{Leads, answer_by, body_of};
+ghost use Rattle.service_calls.specs.Done.{HasRoomToReply, Leads, answer_by, body_of};
+ghost use Rattle.service_events.specs.service_tables.specs.Connections.{HasRoom};
 
 use crate::Tables;
 use crate::answer::Answer;
@@ -22,6 +23,7 @@ use kr_names::{ObjectName, path_of};
 use kr_outside::Folder;
 use service_events::collection_store::{Change, Changed};
 use service_events::secret_calls::{Body, ErrorName, Secret};
+use service_events::service_prompts::{gone_signals, lock_signals};
 use service_events::service_tables::{Delivery, ReadFate, StoreFate, item_path};
 use std::alloc::Global;
 
@@ -39,8 +41,8 @@ pub enum Returned {
     Nothing,
 }
 
-/// What a call led to: its answer, what is sent after the reply, and how the resolve of a file in doubt ended
-/// that it asked for first, and then the storing, as far as it asked for them.
+/// What a call led to: its answer, what is sent after the reply, and, if it asked for them, how the resolve of a
+/// file in doubt ended, and after that the storing of a file.
 #[derive(Drop)]
 pub struct Done {
     /// The answer.
@@ -108,7 +110,7 @@ pub fn unread(alloc: Global, read: ReadFate) -> Done
     refused(alloc, ErrorName::IOError).after(read)
 }
 
-/// A call that asked for no storing, after whose reply this is sent.
+/// A call that asked to store nothing, after whose reply this is sent.
 pub fn sending(answer: Answer, sends: Vec<Delivery>) -> Done
     ensures { result
         ≡ record { answer = answer; sends = sends.items; read = None; fate = None } }
@@ -121,7 +123,7 @@ pub fn sending(answer: Answer, sends: Vec<Delivery>) -> Done
     }
 }
 
-/// A call that asked for no storing, and sends its reply alone.
+/// A call that asked to store nothing, and sends its reply alone.
 pub fn unstored(alloc: Global, answer: Answer) -> Done
     ensures { result ≡ record { answer = answer; sends = []; read = None; fate = None } }
 {
@@ -135,10 +137,14 @@ pub fn refused(alloc: Global, name: ErrorName) -> Done
     unstored(alloc, Err(name))
 }
 
-/// A call that asked for a storing.
-pub fn ended(alloc: Global, body: Body, fate: StoreFate) -> Done
-    ensures { result
-        ≡ record { answer = answer_by body fate; sends = []; read = None; fate = Some fate } }
+/// A call that asked to store a file, after whose reply this is sent.
+pub fn ended(body: Body, fate: StoreFate, sends: Vec<Delivery>) -> Done
+    ensures { result ≡ record {
+      answer = answer_by body fate;
+      sends = sends.items;
+      read = None;
+      fate = Some fate;
+    } }
 {
     let answer = match fate {
         StoreFate::Stored => Ok(body),
@@ -147,7 +153,7 @@ pub fn ended(alloc: Global, body: Body, fate: StoreFate) -> Done
     };
     Done {
         answer,
-        sends: Items::empty(alloc),
+        sends: Items::new(sends),
         read: None,
         fate: Some(fate),
     }
@@ -198,12 +204,14 @@ impl<F: Folder> Tables<F> {
     // Stores an edit of a collection: `change` is the edit with the value that the request brings.
     fn store_edit(
         &mut self,
+        conn: ConnId,
         stem: &Stem,
         change: Change,
         returned: Returned,
         now: u64,
     ) -> Result<Done, OutOfMemory>
-        ensures leads { IfOk result (λ done. (conn : ConnId) (edit : Edit) (value : List ℕ)
+        requires { HasRoom 1 conn self.old.connections.rooms }
+        ensures leads { IfOk result (λ done. (edit : Edit) (value : List ℕ)
             → change ≡ change_of value edit
             → Leads F.is_honest F.is_steady F.faults F.images
             F.may_leave F.made F.Cell.is_honest F.Cell.is_steady
@@ -212,8 +220,8 @@ impl<F: Folder> Tables<F> {
             (storing stem.now edit (body_of returned stem.now)
             (storable_at stem.now change now (rows_of self.old).collections))
             (rows_of self.old) (rows_of self.new) (disk_of self.old) (disk_of self.new) done) }
-        ensures silent { IfOk result (λ done. done.sends ≡ []) }
-        ensures room { self.new.connections ≡ self.old.connections }
+        ensures room { IfOk result (λ done.
+            HasRoomToReply conn done.sends self.new.connections.rooms) }
         ensures unchanged { OnErr result ((rows_of self.new ≡ rows_of self.old)
             × (disk_of self.new ≡ disk_of self.old)) }
     {
@@ -221,7 +229,16 @@ impl<F: Folder> Tables<F> {
             return Ok(refused(self.alloc, ErrorName::LimitsExceeded));
         };
         let body = body_of(self.alloc, returned, stem, answer)?;
-        self.perform_if_small(body, Effect::Store { stem, change, now })
+        self.perform_if_small(
+            conn,
+            body,
+            Effect::Store {
+                stem,
+                change,
+                answer,
+                now,
+            },
+        )
     }
 
     // Stores an edit that brings a secret with this content type, for a session of the caller.
@@ -235,6 +252,7 @@ impl<F: Folder> Tables<F> {
         returned: Returned,
         now: u64,
     ) -> Result<Done, OutOfMemory>
+        requires { HasRoom 1 conn self.old.connections.rooms }
         ensures leads { IfOk result (λ done. (edit : Edit) (value : List ℕ)
             → change ≡ change_of value edit
             → Leads F.is_honest F.is_steady F.faults F.images
@@ -244,8 +262,8 @@ impl<F: Folder> Tables<F> {
             (secret_stored session stem.now content.now edit (body_of returned stem.now)
             (asked conn (record { now = now; value = value }) (rows_of self.old)))
             (rows_of self.old) (rows_of self.new) (disk_of self.old) (disk_of self.new) done) }
-        ensures silent { IfOk result (λ done. done.sends ≡ []) }
-        ensures room { self.new.connections ≡ self.old.connections }
+        ensures room { IfOk result (λ done.
+            HasRoomToReply conn done.sends self.new.connections.rooms) }
         ensures unchanged { OnErr result ((rows_of self.new ≡ rows_of self.old)
             × (disk_of self.new ≡ disk_of self.old)) }
     {
@@ -261,7 +279,7 @@ impl<F: Folder> Tables<F> {
         if content.len() > MOST_CONTENT {
             return Ok(refused(self.alloc, ErrorName::LimitsExceeded));
         }
-        self.store_edit(stem, change, returned, now)
+        self.store_edit(conn, stem, change, returned, now)
     }
 
     /// Performs the row of CreateItem. All memory is taken before the first call of the device.
@@ -275,6 +293,7 @@ impl<F: Folder> Tables<F> {
         replace: bool,
         now: u64,
     ) -> Result<Done, OutOfMemory>
+        requires { HasRoom 1 conn self.old.connections.rooms }
         ensures leads { IfOk result (Leads F.is_honest F.is_steady F.faults F.images
             F.may_leave F.made F.Cell.is_honest F.Cell.is_steady F.Cell.faults
             F.Cell.moment F.Cell.left_since F.Cell.may_leave conn
@@ -284,8 +303,8 @@ impl<F: Folder> Tables<F> {
             secret.now.session secret.now.content
             (asked conn (record { now = now; value = secret.now.value }) (rows_of self.old)))
             (rows_of self.old) (rows_of self.new) (disk_of self.old) (disk_of self.new)) }
-        ensures silent { IfOk result (λ done. done.sends ≡ []) }
-        ensures room { self.new.connections ≡ self.old.connections }
+        ensures room { IfOk result (λ done.
+            HasRoomToReply conn done.sends self.new.connections.rooms) }
         ensures unchanged { OnErr result ((rows_of self.new ≡ rows_of self.old)
             × (disk_of self.new ≡ disk_of self.old)) }
     {
@@ -317,6 +336,7 @@ impl<F: Folder> Tables<F> {
         conn: ConnId,
         collection: &ObjectName,
     ) -> Result<Done, OutOfMemory>
+        requires { HasRoom 1 conn self.old.connections.rooms }
         ensures leads { IfOk result (λ done. (brought : Brought)
             → Leads F.is_honest F.is_steady F.faults F.images
             F.may_leave F.made F.Cell.is_honest F.Cell.is_steady
@@ -324,12 +344,11 @@ impl<F: Folder> Tables<F> {
             F.Cell.left_since F.Cell.may_leave conn brought
             (delete_collection collection.now (asked conn brought (rows_of self.old)))
             (rows_of self.old) (rows_of self.new) (disk_of self.old) (disk_of self.new) done) }
-        ensures silent { IfOk result (λ done. done.sends ≡ []) }
-        ensures room { self.new.connections ≡ self.old.connections }
+        ensures room { IfOk result (λ done.
+            HasRoomToReply conn done.sends self.new.connections.rooms) }
         ensures unchanged { OnErr result ((rows_of self.new ≡ rows_of self.old)
             × (disk_of self.new ≡ disk_of self.old)) }
     {
-        let _ = conn;
         let Some(stem) = self.disk.collection_named(collection) else {
             return Ok(refused(self.alloc, ErrorName::NoSuchObject));
         };
@@ -338,8 +357,12 @@ impl<F: Folder> Tables<F> {
             return Ok(refused(self.alloc, ErrorName::IsLocked));
         }
         let body = Body::Object(path_of(self.alloc, &ObjectName::Nothing)?);
+        let gone = gone_signals(self.alloc, &stem)?;
+        let closed = lock_signals(self.alloc, &stem, true)?;
+        let said = self.prepare_said(conn, gone, closed)?;
         self.disk.reserve_spare()?;
-        Ok(ended(self.alloc, body, self.disk.erase(stem)))
+        let fate = self.disk.erase(stem);
+        Ok(ended(body, fate, said.by(self.alloc, fate)))
     }
 
     /// Performs the row of Delete of an item. All memory is taken before the first call of the device.
@@ -350,6 +373,7 @@ impl<F: Folder> Tables<F> {
         item: ItemId,
         now: u64,
     ) -> Result<Done, OutOfMemory>
+        requires { HasRoom 1 conn self.old.connections.rooms }
         ensures leads { IfOk result (λ done. (value : List ℕ)
             → Leads F.is_honest F.is_steady F.faults F.images
             F.may_leave F.made F.Cell.is_honest F.Cell.is_steady
@@ -358,19 +382,19 @@ impl<F: Folder> Tables<F> {
             (delete_item stem.now item
             (asked conn (record { now = now; value = value }) (rows_of self.old)))
             (rows_of self.old) (rows_of self.new) (disk_of self.old) (disk_of self.new) done) }
-        ensures silent { IfOk result (λ done. done.sends ≡ []) }
-        ensures room { self.new.connections ≡ self.old.connections }
+        ensures room { IfOk result (λ done.
+            HasRoomToReply conn done.sends self.new.connections.rooms) }
         ensures unchanged { OnErr result ((rows_of self.new ≡ rows_of self.old)
             × (disk_of self.new ≡ disk_of self.old)) }
     {
-        let _ = conn;
         if !self.disk.collections.has_item(stem, item) {
             return Ok(refused(self.alloc, ErrorName::NoSuchObject));
         }
         if !self.disk.collections.is_open(stem) {
             return Ok(refused(self.alloc, ErrorName::IsLocked));
         }
-        self.store_edit(stem, Change::Remove { id: item }, Returned::NoPrompt, now)
+        let change = Change::Remove { id: item };
+        self.store_edit(conn, stem, change, Returned::NoPrompt, now)
     }
 
     /// Performs the row of SetSecret. All memory is taken before the first call of the device.
@@ -382,6 +406,7 @@ impl<F: Folder> Tables<F> {
         secret: &Secret,
         now: u64,
     ) -> Result<Done, OutOfMemory>
+        requires { HasRoom 1 conn self.old.connections.rooms }
         ensures leads { IfOk result (Leads F.is_honest F.is_steady F.faults F.images
             F.may_leave F.made F.Cell.is_honest F.Cell.is_steady F.Cell.faults
             F.Cell.moment F.Cell.left_since F.Cell.may_leave conn
@@ -389,8 +414,8 @@ impl<F: Folder> Tables<F> {
             (set_secret stem.now item secret.now.session secret.now.content
             (asked conn (record { now = now; value = secret.now.value }) (rows_of self.old)))
             (rows_of self.old) (rows_of self.new) (disk_of self.old) (disk_of self.new)) }
-        ensures silent { IfOk result (λ done. done.sends ≡ []) }
-        ensures room { self.new.connections ≡ self.old.connections }
+        ensures room { IfOk result (λ done.
+            HasRoomToReply conn done.sends self.new.connections.rooms) }
         ensures unchanged { OnErr result ((rows_of self.new ≡ rows_of self.old)
             × (disk_of self.new ≡ disk_of self.old)) }
     {
@@ -414,8 +439,15 @@ impl<F: Folder> Tables<F> {
     }
 
     // Stores an edit of a collection that returns nothing, if the collection is unlocked.
-    fn store_if_open(&mut self, stem: &Stem, change: Change, now: u64) -> Result<Done, OutOfMemory>
-        ensures leads { IfOk result (λ done. (conn : ConnId) (edit : Edit) (value : List ℕ)
+    fn store_if_open(
+        &mut self,
+        conn: ConnId,
+        stem: &Stem,
+        change: Change,
+        now: u64,
+    ) -> Result<Done, OutOfMemory>
+        requires { HasRoom 1 conn self.old.connections.rooms }
+        ensures leads { IfOk result (λ done. (edit : Edit) (value : List ℕ)
             → change ≡ change_of value edit
             → Leads F.is_honest F.is_steady F.faults F.images
             F.may_leave F.made F.Cell.is_honest F.Cell.is_steady
@@ -424,26 +456,28 @@ impl<F: Folder> Tables<F> {
             (editing stem.now edit
             (asked conn (record { now = now; value = value }) (rows_of self.old)))
             (rows_of self.old) (rows_of self.new) (disk_of self.old) (disk_of self.new) done) }
-        ensures silent { IfOk result (λ done. done.sends ≡ []) }
-        ensures room { self.new.connections ≡ self.old.connections }
+        ensures room { IfOk result (λ done.
+            HasRoomToReply conn done.sends self.new.connections.rooms) }
         ensures unchanged { OnErr result ((rows_of self.new ≡ rows_of self.old)
             × (disk_of self.new ≡ disk_of self.old)) }
     {
         if !self.disk.collections.is_open(stem) {
             return Ok(refused(self.alloc, ErrorName::IsLocked));
         }
-        self.store_edit(stem, change, Returned::Nothing, now)
+        self.store_edit(conn, stem, change, Returned::Nothing, now)
     }
 
-    // The same of an item, which must be there.
+    // The same for an item, which must be there.
     fn store_of_item(
         &mut self,
+        conn: ConnId,
         stem: &Stem,
         item: ItemId,
         change: Change,
         now: u64,
     ) -> Result<Done, OutOfMemory>
-        ensures leads { IfOk result (λ done. (conn : ConnId) (edit : Edit) (value : List ℕ)
+        requires { HasRoom 1 conn self.old.connections.rooms }
+        ensures leads { IfOk result (λ done. (edit : Edit) (value : List ℕ)
             → change ≡ change_of value edit
             → Leads F.is_honest F.is_steady F.faults F.images
             F.may_leave F.made F.Cell.is_honest F.Cell.is_steady
@@ -452,15 +486,15 @@ impl<F: Folder> Tables<F> {
             (editing_item stem.now item edit
             (asked conn (record { now = now; value = value }) (rows_of self.old)))
             (rows_of self.old) (rows_of self.new) (disk_of self.old) (disk_of self.new) done) }
-        ensures silent { IfOk result (λ done. done.sends ≡ []) }
-        ensures room { self.new.connections ≡ self.old.connections }
+        ensures room { IfOk result (λ done.
+            HasRoomToReply conn done.sends self.new.connections.rooms) }
         ensures unchanged { OnErr result ((rows_of self.new ≡ rows_of self.old)
             × (disk_of self.new ≡ disk_of self.old)) }
     {
         if !self.disk.collections.has_item(stem, item) {
             return Ok(refused(self.alloc, ErrorName::NoSuchObject));
         }
-        self.store_if_open(stem, change, now)
+        self.store_if_open(conn, stem, change, now)
     }
 
     /// Performs the row of Set of the label of a collection. All memory is taken before the first call of
@@ -472,6 +506,7 @@ impl<F: Folder> Tables<F> {
         label: &Text,
         now: u64,
     ) -> Result<Done, OutOfMemory>
+        requires { HasRoom 1 conn self.old.connections.rooms }
         ensures leads { IfOk result (λ done. (value : List ℕ)
             → Leads F.is_honest F.is_steady F.faults F.images
             F.may_leave F.made F.Cell.is_honest F.Cell.is_steady
@@ -480,18 +515,17 @@ impl<F: Folder> Tables<F> {
             (set_collection_label collection.now label.now
             (asked conn (record { now = now; value = value }) (rows_of self.old)))
             (rows_of self.old) (rows_of self.new) (disk_of self.old) (disk_of self.new) done) }
-        ensures silent { IfOk result (λ done. done.sends ≡ []) }
-        ensures room { self.new.connections ≡ self.old.connections }
+        ensures room { IfOk result (λ done.
+            HasRoomToReply conn done.sends self.new.connections.rooms) }
         ensures unchanged { OnErr result ((rows_of self.new ≡ rows_of self.old)
             × (disk_of self.new ≡ disk_of self.old)) }
     {
-        let _ = conn;
         let Some(stem) = self.disk.collection_named(collection) else {
             return Ok(refused(self.alloc, ErrorName::NoSuchObject));
         };
         let stem = stem.copy()?;
         let label = label.copy()?;
-        self.store_if_open(&stem, Change::SetName { label }, now)
+        self.store_if_open(conn, &stem, Change::SetName { label }, now)
     }
 
     /// Performs the row of Set of the label of an item. All memory is taken before the first call of the
@@ -504,6 +538,7 @@ impl<F: Folder> Tables<F> {
         label: &Text,
         now: u64,
     ) -> Result<Done, OutOfMemory>
+        requires { HasRoom 1 conn self.old.connections.rooms }
         ensures leads { IfOk result (λ done. (value : List ℕ)
             → Leads F.is_honest F.is_steady F.faults F.images
             F.may_leave F.made F.Cell.is_honest F.Cell.is_steady
@@ -512,14 +547,13 @@ impl<F: Folder> Tables<F> {
             (set_item_label stem.now item label.now
             (asked conn (record { now = now; value = value }) (rows_of self.old)))
             (rows_of self.old) (rows_of self.new) (disk_of self.old) (disk_of self.new) done) }
-        ensures silent { IfOk result (λ done. done.sends ≡ []) }
-        ensures room { self.new.connections ≡ self.old.connections }
+        ensures room { IfOk result (λ done.
+            HasRoomToReply conn done.sends self.new.connections.rooms) }
         ensures unchanged { OnErr result ((rows_of self.new ≡ rows_of self.old)
             × (disk_of self.new ≡ disk_of self.old)) }
     {
-        let _ = conn;
         let label = label.copy()?;
-        self.store_of_item(stem, item, Change::SetLabel { id: item, label }, now)
+        self.store_of_item(conn, stem, item, Change::SetLabel { id: item, label }, now)
     }
 
     /// Performs the row of Set of the attributes of an item. All memory is taken before the first call of
@@ -532,6 +566,7 @@ impl<F: Folder> Tables<F> {
         attributes: &Attributes,
         now: u64,
     ) -> Result<Done, OutOfMemory>
+        requires { HasRoom 1 conn self.old.connections.rooms }
         ensures leads { IfOk result (λ done. (value : List ℕ)
             → Leads F.is_honest F.is_steady F.faults F.images
             F.may_leave F.made F.Cell.is_honest F.Cell.is_steady
@@ -540,14 +575,14 @@ impl<F: Folder> Tables<F> {
             (set_attributes stem.now item attributes.now
             (asked conn (record { now = now; value = value }) (rows_of self.old)))
             (rows_of self.old) (rows_of self.new) (disk_of self.old) (disk_of self.new) done) }
-        ensures silent { IfOk result (λ done. done.sends ≡ []) }
-        ensures room { self.new.connections ≡ self.old.connections }
+        ensures room { IfOk result (λ done.
+            HasRoomToReply conn done.sends self.new.connections.rooms) }
         ensures unchanged { OnErr result ((rows_of self.new ≡ rows_of self.old)
             × (disk_of self.new ≡ disk_of self.old)) }
     {
-        let _ = conn;
         let attributes = attributes.copy()?;
         self.store_of_item(
+            conn,
             stem,
             item,
             Change::SetAttributes {

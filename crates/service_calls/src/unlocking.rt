@@ -1,9 +1,10 @@
 // The call Unlock of the interface Service.
-ghost use Rattle.std.specs.Prelude.{◌≡◌, [], IfOk, OnErr};
+ghost use Rattle.std.specs.Prelude.{◌≡◌, IfOk, OnErr};
 ghost use Rattle.service_calls.specs.Rows.{disk_of, rows_of};
 ghost use Rattle.service_events.specs.Run.{asked};
 ghost use Rattle.service_events.specs.ServiceCalls.{unlock};
-ghost use Rattle.service_calls.specs.Done.{Leads};
+ghost use Rattle.service_calls.specs.Done.{HasRoomToReply, Leads};
+ghost use Rattle.service_events.specs.service_tables.specs.Connections.{HasRoom};
 ghost use Rattle.service_events.specs.service_tables.specs.Storing.{Brought};
 
 use crate::Tables;
@@ -20,6 +21,7 @@ use service_events::service_prompts::{are_light, targets_of, unlocked_there};
 impl<F: Folder> Tables<F> {
     /// Performs the row of Unlock. All memory is taken before a prompt begins.
     pub fn unlock(&mut self, conn: ConnId, objects: &[ObjectName]) -> Result<Done, OutOfMemory>
+        requires { HasRoom 1 conn self.old.connections.rooms }
         ensures leads { IfOk result (λ done. (brought : Brought)
             → Leads F.is_honest F.is_steady F.faults F.images
             F.may_leave F.made F.Cell.is_honest F.Cell.is_steady
@@ -27,8 +29,8 @@ impl<F: Folder> Tables<F> {
             F.Cell.left_since F.Cell.may_leave conn brought
             (unlock objects.now (asked conn brought (rows_of self.old)))
             (rows_of self.old) (rows_of self.new) (disk_of self.old) (disk_of self.new) done) }
-        ensures silent { IfOk result (λ done. done.sends ≡ []) }
-        ensures room { self.new.connections ≡ self.old.connections }
+        ensures room { IfOk result (λ done.
+            HasRoomToReply conn done.sends self.new.connections.rooms) }
         ensures unchanged { OnErr result ((rows_of self.new ≡ rows_of self.old)
             × (disk_of self.new ≡ disk_of self.old)) }
     {

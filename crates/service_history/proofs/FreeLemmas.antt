@@ -39,6 +39,7 @@ use Rattle.service_machine.specs.service_tables.specs.Storing.{Brought, change_o
 use Rattle.service_machine.specs.service_disk.specs.Making as making
 use Rattle.service_machine.specs.service_disk.specs.Making.{AreFree, IsFreeStem, MakesAt, rows_made}
 use Rattle.service_machine.specs.service_disk.specs.Opening.{row_opened}
+use Rattle.service_machine.specs.service_disk.specs.Rekeying.{row_rekeyed}
 use Rattle.service_machine.specs.service_disk.specs.Resolving.{is_file, row_found, rows_found, rows_resolved}
 use Rattle.replace_slot.specs.declared.images.Found.{Found}
 use Rattle.replace_slot.specs.declared.images.Found.TheVariants as image
@@ -47,7 +48,7 @@ use Rattle.service_machine.specs.service_events.specs.declared.event.Event.{Even
 use Rattle.service_machine.specs.service_events.specs.declared.event.Event.TheVariants as event
 use Rattle.service_machine.specs.service_events.specs.declared.event.Incoming.TheVariants as incoming
 use Rattle.service_machine.specs.service_events.specs.Incoming.{Records}
-use Rattle.service_machine.specs.service_events.specs.Plan.{Change, Lock_collection, Demand, Store, Erase, Set_alias, Make, Plan, Ends, Asks, Resolves, Opens, Reading, Aliases_file, Collection_file}
+use Rattle.service_machine.specs.service_events.specs.Plan.{Change, Lock_collection, Demand, Store, Erase, Set_alias, Make, Rekey, Plan, Ends, Asks, Resolves, Opens, Reading, Aliases_file, Collection_file}
 use Rattle.service_machine.specs.service_events.specs.Run.{asked, by_read, by_reading, by_store, by_test, demanded, fits, is_in_doubt, key_with, made_of, performed, performed_all, promised, settled, unlocked_with}
 use Rattle.service_machine.specs.service_events.specs.Stored.{StoresDemand, StoresEvent, StoresOf, StoresReading}
 use Rattle.service_machine.specs.service_events.specs.Step.{brought_by, plan_of}
@@ -231,6 +232,7 @@ taken-demanded brought (Store stem edit) some state taken = λ other off. none-c
 taken-demanded brought (Erase stem) some state taken = λ other off. none-erased stem other some state.collections (taken other off)
 taken-demanded brought (Make stem label terms) some state taken =
     λ other off. (let parts = with-off stem other state.used off in none-made stem other (made_of brought terms label) some state.collections parts.0 (taken other parts.1))
+taken-demanded brought (Rekey stem terms) some state taken = λ other off. none-changed other stem (row_rekeyed (key_with brought terms) brought.now some) state.collections (taken other off)
 taken-demanded brought _ some state taken = taken
 
 taken-settled : (reading : Reading) (some : ReadFate) (state : State) → AreTaken state → AreTaken (settled reading some state)
@@ -341,6 +343,7 @@ module _ {F S : Type 0} (folder_honest folder_steady : F → Bool) (folder_fault
   used-demanded brought (Erase stem) some state old new same does = ap (λ (d : DiskState F S). d.used) does.rest ∙ same
   used-demanded brought (Set_alias alias stem) some state old new same does = ap (λ (d : DiskState F S). d.used) does.rest ∙ same
   used-demanded brought (Make stem label terms) some state old new same does = does.used ∙ ap (with_stem stem) same
+  used-demanded brought (Rekey stem terms) some state old new same does = ap (λ (d : DiskState F S). d.used) does.rest ∙ same
 
   free-at : (stem other : List ℕ) (some : Fate) (before after : Rows) (old new : DiskState F S) → is_used other old.used ≡ false → value_at other after ≡ None
       → StoresAt is_honest is_steady faults moment left_since may_leave stem some before after old new → Frees old → IsFreeAt other new
@@ -363,6 +366,8 @@ module _ {F S : Type 0} (folder_honest folder_steady : F → Bool) (folder_fault
       let parts = with-off stem other state.used off in
       free-made stem other some state.collections (demanded brought (Make stem label terms) some state).collections old new (name-turned other stem parts.0) does
       (free other (unlisted other old.used (ap (is_used other) same ∙ parts.1)))
+  free-asked brought (Rekey stem terms) some state old new other same off none does free =
+      free-at stem other (fate.Store some) state.collections (demanded brought (Rekey stem terms) some state).collections old new (ap (is_used other) same ∙ off) none does free
 
   free-demanded : (brought : Brought) (demand : Demand) (some : StoreFate) (state : State) (old new : DiskState F S) → old.used ≡ state.used → AreTaken state
       → Does demand some state (demanded brought demand some state) old new → Frees old → Frees new

@@ -3,7 +3,7 @@ use Rattle.std.proofs.Common.{◌≡◌, ◌+◌, ◌<◌, ◌≤◌, true, fals
 use Rattle.kr_base.specs.declared.ids.ConnId.{ConnId}
 use Rattle.service_machine.specs.service_events.specs.declared.event.Event.{Event}
 use Rattle.service_machine.specs.service_events.specs.declared.event.Event.TheVariants as event
-use Rattle.service_machine.specs.service_tables.specs.declared.rows.DeskRow.{DeskRow}
+use Rattle.service_machine.specs.service_tables.specs.signal_fanout.specs.declared.rows.DeskRow.{DeskRow}
 use Rattle.service_machine.specs.service_tables.specs.State.{State}
 use Rattle.service_machine.specs.service_tables.specs.Connections.{left, emptied, desk_of}
 use Rattle.service_machine.specs.service_tables.specs.Limits.{most_events}

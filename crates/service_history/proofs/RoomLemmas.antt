@@ -2,8 +2,8 @@
 -- them.
 use Rattle.std.proofs.Common.{◌≡◌, ◌+◌, ◌*◌, ◌≤◌, Bool, true, false, cond, List, [], ◌∷◌, length, IsSomeAnd, refl, arith}
 use Rattle.kr_base.specs.declared.ids.ConnId.{ConnId}
-use Rattle.service_machine.specs.service_tables.specs.declared.rows.ConnRow.{ConnRow}
-use Rattle.service_machine.specs.service_tables.specs.declared.rows.DeskRow.{DeskRow}
+use Rattle.service_machine.specs.service_tables.specs.signal_fanout.specs.declared.rows.ConnRow.{ConnRow}
+use Rattle.service_machine.specs.service_tables.specs.signal_fanout.specs.declared.rows.DeskRow.{DeskRow}
 use Rattle.service_machine.specs.service_tables.specs.Connections.{is_row, has, changed, without, left, emptied, waits, desk_of}
 use Rattle.service_history.specs.Room.{room_of, room}
 

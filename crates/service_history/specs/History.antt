@@ -7,7 +7,7 @@ use Rattle.service_machine.specs.secret_calls.specs.declared.taken.Taken.{Taken}
 use Rattle.service_machine.specs.secret_calls.specs.declared.taken.Taken.TheVariants as taken
 use Rattle.service_machine.specs.service_tables.specs.Disk.{DiskState}
 use Rattle.service_machine.specs.service_tables.specs.State.{State}
-use Rattle.service_machine.specs.service_tables.specs.declared.rows.DeskRow.{DeskRow}
+use Rattle.service_machine.specs.service_tables.specs.signal_fanout.specs.declared.rows.DeskRow.{DeskRow}
 use Rattle.service_machine.specs.service_events.specs.declared.event.Arrival.{Arrival}
 use Rattle.service_machine.specs.service_tables.specs.declared.fate.Fate.{Fate}
 use Rattle.service_machine.specs.service_events.specs.declared.event.Incoming.{Incoming}

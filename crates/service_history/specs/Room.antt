@@ -1,7 +1,7 @@
 -- The events for which room is kept, so that they never need memory: for each connection, that it leaves, if it hasn't;
 -- that it takes, if something waits; and that it is gone.
 use Rattle.std.specs.Prelude.{ℕ, ◌+◌, if◌then◌else◌, List, [], ◌∷◌}
-use Rattle.service_machine.specs.service_tables.specs.declared.rows.ConnRow.{ConnRow}
+use Rattle.service_machine.specs.service_tables.specs.signal_fanout.specs.declared.rows.ConnRow.{ConnRow}
 use Rattle.service_machine.specs.service_tables.specs.Connections.{waits}
 
 -- how many such events a connection may bring

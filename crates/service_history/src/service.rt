@@ -24,7 +24,8 @@ use kr_base::{ConnId, OutOfMemory, Stem};
 use kr_outside::Folder;
 use service_machine::secret_calls::{Refused, Taken, Work};
 use service_machine::{
-    Arrival, Arrived, BroughtKey, Disk, Event, Incoming, JoinRefused, Machine, OpenRefused, Output,
+    Arrival, Arrived, BroughtKey, DeskRow, Disk, Event, Incoming, JoinRefused, Machine,
+    OpenRefused, Output,
 };
 use std::alloc::Global;
 use std::marker::Model;
@@ -329,6 +330,13 @@ impl<F: Folder> Service<F> {
         Taken::Closed
     }
 
+    /// The status of a connection, by which `take` decides what it returns; None if it isn't there.
+    pub fn desk(&self, conn: ConnId) -> Option<DeskRow>
+        ensures { result ≡ told conn self.now.history }
+    {
+        self.machine.desk(conn)
+    }
+
     /// Records that the connection makes no more requests, if it is there and isn't leaving
     /// already. It takes no memory.
     pub fn leave(&mut self, conn: ConnId)
@@ -372,7 +380,7 @@ impl<F: Folder> Service<F> {
         self.machine.untouched(stem);
     }
 
-    /// The same of the file of the aliases, unless it was left alone. It does nothing.
+    /// The same for the file of the aliases, unless it was left alone. It does nothing.
     pub fn untouched_aliases(&self)
         ensures { IfSome self.now.history.state.aliases (λ rows. LeavesKnown
             F.Cell.is_honest F.Cell.moment F.Cell.left_since rows.file self.now.disk.aliases) }
@@ -406,7 +414,7 @@ impl<F: Folder> Service<F> {
     }
 }
 
-// Makes the room for an event of a connection that is there, in the next window if a cut is due.
+// Makes room for an event of an existing connection, in the next window if a cut is due.
 fn admitted<F: Folder>(
     machine: &Machine<F>,
     window: &mut Window<F>,

@@ -30,7 +30,7 @@ use Rattle.service_answers.specs.service_disk.specs.Making.{MakesAt}
 use Rattle.service_answers.specs.service_tables.specs.Slots.{IsFault, StoresAliases, StoresAt, are_steady, slot_at}
 use Rattle.service_answers.specs.service_tables.specs.Storing.{Brought}
 use Rattle.service_answers.specs.service_events.specs.Fates.{AreFaultless, is_steady}
-use Rattle.service_answers.specs.service_events.specs.Plan.{Aliases_file, Asks, Collection_file, Demand, Ends, Erase, Make, Opens, Plan, Reading, Set_alias, Resolves, Store}
+use Rattle.service_answers.specs.service_events.specs.Plan.{Aliases_file, Asks, Collection_file, Demand, Ends, Erase, Make, Opens, Plan, Reading, Rekey, Set_alias, Resolves, Store}
 use Rattle.service_answers.specs.service_events.specs.Run.{AreFates, AreNone, asked, by_read, by_reading, by_store, by_test, demanded, fits, is_in_doubt, promised, settled, unlocked_with}
 use Rattle.service_answers.specs.service_events.specs.Stored.{KeepsSlotOf, KeepsSlotOrAll, StoresDemand, StoresOf, StoresReading}
 use Rattle.service_answers.specs.service_events.proofs.RunLemmas.{fits-either, read-either, reading-either, store-either}
@@ -190,12 +190,14 @@ module _ {F S : Type 0} (folder_honest folder_steady : F → Bool) (folder_fault
   asked-steady (Erase stem) some before after old new is = at-steady stem (fate.Store some) before.collections after.collections old new is
   asked-steady (Set_alias alias stem) some before after old new is = for-steady (fate.Store some) before.aliases after.aliases old new is
   asked-steady (Make stem label terms) some before after old new is = made-steady stem some before.collections after.collections old new is
+  asked-steady (Rekey stem terms) some before after old new is = at-steady stem (fate.Store some) before.collections after.collections old new is
 
   asked-never : (demand : Demand) (some : StoreFate) (before after : Contents) (old new : DiskState F S) → Asked demand some before after old new → whole old ≡ true → IsFault (fate.Store some) → ⊥
   asked-never (Store stem edit) some before after old new is = at-never stem (fate.Store some) before.collections after.collections old new is
   asked-never (Erase stem) some before after old new is = at-never stem (fate.Store some) before.collections after.collections old new is
   asked-never (Set_alias alias stem) some before after old new is = for-never (fate.Store some) before.aliases after.aliases old new is
   asked-never (Make stem label terms) some before after old new is = made-never stem some before.collections after.collections old new is
+  asked-never (Rekey stem terms) some before after old new is = at-never stem (fate.Store some) before.collections after.collections old new is
 
   -- and of a file that is read again
   abbrev Reads : Reading → ReadFate → Contents → Contents → DiskState F S → DiskState F S → Type 0
@@ -218,6 +220,7 @@ module _ {F S : Type 0} (folder_honest folder_steady : F → Bool) (folder_fault
   left-steady (Asks (Store stem edit) next) old new is = absurd is
   left-steady (Asks (Erase stem) next) old new is = absurd is
   left-steady (Asks (Set_alias alias stem) next) old new is = absurd is
+  left-steady (Asks (Rekey stem terms) next) old new is = absurd is
   left-steady (Asks (Make stem label terms) next) old new is =
       let mid : DiskState F S = record old { folder = new.folder; spare = new.spare } in
       let files = list_all (λ (file : LeftAlone S). slot_steady file.slot) old.left_alone && slot_steady old.aliases in

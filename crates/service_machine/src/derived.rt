@@ -37,7 +37,7 @@ fn known_derivation(came: &Derivation)
 }
 
 impl<F: Folder> Machine<F> {
-    /// Takes a key that was derived for a prompt, as a connection that is there brought it, and returns it as it is
+    /// Takes a key that was derived for a prompt and brought by an existing connection, and returns the event as it is
     /// to be recorded: its prompt continues if it still waits for the key, and otherwise nothing happens. What that
     /// sends waits for its connections. All memory is taken before the first call of a device.
     ///

@@ -9,7 +9,7 @@
 //! there is room for all of it before anything changes. A password is in no answer, and of a key nothing
 //! is kept but what an unlocked collection holds.
 //! The time of an event grows with what it changes and puts out, and with the logarithm of the number
-//! of connections, sessions and prompts; Register, Unregister and the going of the agent pass over all
+//! of connections, sessions and prompts; Register, Unregister and the end of the agent pass over all
 //! prompts.
 #![tactic(auto)]
 

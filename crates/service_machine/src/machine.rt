@@ -264,8 +264,8 @@ impl<F: Folder> Machine<F> {
         self.tables.connections.join()
     }
 
-    // Answers the request of a connection that is there, as `arrive` does, and returns with the key that is to be
-    // derived the request as it is to be recorded. The memory for that is taken before the first call of a device.
+    // Answers the request of an existing connection, as `arrive` does, and returns the key that is to be derived
+    // and the request as it is to be recorded. The memory for that is taken before the first call of a device.
     fn recorded(&mut self, arrival: Arrival) -> Result<(Option<Work>, Boxed<Recorded>), OutOfMemory>
         requires { has arrival.conn (rows_of self.old).connections.rows ≡ true }
         ensures recorded { IfOk result (λ done. done.1.arrival ≡ arrival) }
@@ -291,7 +291,7 @@ impl<F: Folder> Machine<F> {
         Ok((work, Recorded::ended(came, fates)))
     }
 
-    /// Answers the request of a connection that is there; the reply waits for it, and then the signals that the
+    /// Answers the request of an existing connection; the reply waits for it, and then the signals that the
     /// request sends wait for their connections. It returns the key that is to be derived, if the request is an
     /// answer that was taken, and how each storing and each resolve of a file ended that the request asked for.
     /// All memory is taken before the first call of a device, and before anything changes.
@@ -452,6 +452,9 @@ impl<F: Folder> Machine<F> {
             Call::DeleteCollection { collection } => self
                 .tables
                 .delete_collection(conn, collection),
+            Call::ChangePassword { collection } => {
+                self.tables.change_password(conn, collection, salt)
+            }
             Call::DeleteItem { stem, item } => self.tables.delete_item(conn, stem, *item, now),
             Call::SetSecret { stem, item, secret } => {
                 self.tables.set_secret(conn, stem, *item, secret, now)

@@ -1,4 +1,4 @@
-use Rattle.std.proofs.Common.{◌≡◌, true, false, [], ◌∷◌, sym, ap, subst, ◌∙◌}
+use Rattle.std.proofs.Common.{◌≡◌, true, false, cond, [], ◌∷◌, sym, ap, subst, ◌∙◌}
 use Rattle.std.proofs.lemmas.List.{append-nil}
 use Rattle.service_calls.specs.collection_table.specs.Rows.{has}
 use Rattle.service_calls.specs.service_events.specs.PublicBody as public
@@ -11,7 +11,7 @@ use Rattle.service_calls.specs.Done.{HasRoomToReply}
 use Rattle.service_calls.specs.declared.storing.Done.{Done}
 use Rattle.service_answers.proofs.AnswerLemmas.{target-gone, target-locked, taken-round, taken-there}
 use Rattle.service_calls.specs.service_events.proofs.SmallLemmas.{empty-small}
-use Rattle.service_calls.proofs.LeadsLemmas.{leads-as, leads-changes, room-alone}
+use Rattle.service_calls.proofs.LeadsLemmas.{leads-as, leads-changes, leads-done}
 use Rattle.service_answers.proofs.answering.answer_found.Goals as goal
 
 pub go_on_now-requires-clause-there : goal.go_on_now-requires-clause-there
@@ -22,25 +22,29 @@ go_on_now-requires-clause-round g c = taken-round c.args.prompt c.args.round c.a
 
 -- the collection is there, and locked
 pub returns-then-has-clause-leads : goal.returns-then-has-clause-leads
-returns-then-has-clause-leads g c = λ brought.
+returns-then-has-clause-leads g c = λ brought rest is.
     let folder = g.F.Folder in
     let slot = g.F.Cell.Slot in
     let conn = c.args.conn in
     let old = rows_of c.args.tables.now in
     let there : has c.args.stem.now old.collections ≡ true = sym c.has.ensures ∙ c.if-has.true in
-    leads-as folder.is_honest folder.is_steady folder.faults folder.images folder.may_leave folder.made slot.is_honest slot.is_steady slot.faults slot.moment slot.left_since slot.may_leave conn brought old _ (disk_of c.args.tables.now) _ _ _ _
-    (target-locked c.args.prompt c.args.round (asked conn brought old) c.args.stem.now there c.requires.locked) (c.derive.ensures.leads brought)
+    let none : rest ≡ c.derive-derived.result.sends =
+    is ∙ ap (λ b. spread old.connections.rows (cond b [] (sent_by conn (Go_on c.args.prompt) old))) there ∙ sym c.derive-derived.ensures.silent in
+    leads-done folder.is_honest folder.is_steady folder.faults folder.images folder.may_leave folder.made slot.is_honest slot.is_steady slot.faults slot.moment slot.left_since slot.may_leave conn brought old (rows_of c.derive-derived.new.tables) (disk_of c.args.tables.now) (disk_of c.derive-derived.new.tables) _ (record c.derive-derived.result { sends = rest }) c.derive-derived.result
+    (λ i. record c.derive-derived.result { sends = none i })
+    (leads-as folder.is_honest folder.is_steady folder.faults folder.images folder.may_leave folder.made slot.is_honest slot.is_steady slot.faults slot.moment slot.left_since slot.may_leave conn brought old _ (disk_of c.args.tables.now) _ _ _ _
+    (target-locked c.args.prompt c.args.round (asked conn brought old) c.args.stem.now there c.requires.locked) (c.derive-derived.ensures.leads brought))
 
 pub returns-then-has-clause-room : goal.returns-then-has-clause-room
 returns-then-has-clause-room g c =
     let conn = c.args.conn in
     let rooms = c.args.tables.now.connections.rooms in
-    subst (λ (table : Table). HasRoomToReply conn c.derive.result.sends table.rooms) (sym c.derive.ensures.room)
-    (subst (λ sends. HasRoomToReply conn sends rooms) (sym c.derive.ensures.silent) (room-alone conn c.args.sends.items rooms c.requires.room))
+    subst (λ (table : Table). HasRoomToReply conn c.new.result table.rooms) (sym c.derive-derived.ensures.room)
+    (subst (λ sends. HasRoomToReply conn sends rooms) (sym c.new.ensures) c.requires.room)
 
 -- it is gone
 pub returns-clause-leads : goal.returns-clause-leads
-returns-clause-leads g c = λ brought.
+returns-clause-leads g c = λ brought rest is.
     let folder = g.F.Folder in
     let slot = g.F.Cell.Slot in
     let conn = c.args.conn in
@@ -48,9 +52,9 @@ returns-clause-leads g c = λ brought.
     let old = rows_of c.args.tables.now in
     let disk = disk_of c.args.tables.now in
     let gone : has c.args.stem.now old.collections ≡ false = sym c.has.ensures ∙ c.if-has.false in
-    let done = c.sending.result in
+    let done : Done = record c.sending.result { sends = rest } in
     let rows = old.connections.rows in
-    let sent = ap (λ (d : Done). d.sends) c.sending.ensures ∙ c.requires.sends gone rows in
+    let sent : rest ≡ spread rows (sent_by conn (Go_on prompt) old) = is ∙ ap (λ b. spread rows (cond b [] (sent_by conn (Go_on prompt) old))) gone in
     leads-as folder.is_honest folder.is_steady folder.faults folder.images folder.may_leave folder.made slot.is_honest slot.is_steady slot.faults slot.moment slot.left_since slot.may_leave conn brought old _ disk _ _ _ _
     (target-gone prompt c.args.round (asked conn brought old) c.args.stem.now gone)
     (leads-changes folder.is_honest folder.is_steady folder.faults folder.images folder.may_leave folder.made slot.is_honest slot.is_steady slot.faults slot.moment slot.left_since slot.may_leave conn brought old _ disk _ public.Empty (Go_on prompt ∷ []) done
@@ -63,3 +67,7 @@ returns-clause-room g c =
     let rooms = c.args.tables.now.connections.rooms in
     subst (λ (table : Table). HasRoomToReply conn c.sending.result.sends table.rooms) (sym c.go_on_now.ensures.room)
     (subst (λ sends. HasRoomToReply conn sends rooms) (sym (ap (λ (done : Done). done.sends) c.sending.ensures)) c.requires.room)
+
+-- what was given is sent
+pub returns-clause-sends : goal.returns-clause-sends
+returns-clause-sends g c = ap (λ (done : Done). done.sends) c.sending.ensures

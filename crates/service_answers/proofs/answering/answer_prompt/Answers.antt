@@ -5,6 +5,8 @@ use Rattle.service_calls.specs.service_events.specs.AgentCalls.{in_round, unless
 use Rattle.service_calls.specs.service_events.specs.AnswerCalls.{answer_prompt, row_answered}
 use Rattle.service_calls.specs.service_events.specs.Plan.{Plan}
 use Rattle.service_calls.specs.Rows.{rows_of}
+use Rattle.service_calls.specs.service_tables.specs.Opened.{contents_of}
+use Rattle.service_calls.specs.service_tables.specs.Reading.{asked_collections}
 use Rattle.service_calls.specs.service_events.specs.Run.{asked}
 use Rattle.service_calls.specs.declared.storing.Done.{Done}
 use Rattle.service_calls.proofs.LeadsLemmas.{leads-as, map-ok, room-silent}
@@ -34,7 +36,7 @@ returns-in-None-clause-leads g c =
     let waits : refusal prompt round conn old.prompts ≡ None = sym c.refusal.ensures.refusal ∙ c.in-None.is in
     map-ok c.take_answer.result _ _
     (λ done leads brought.
-    let goes : PromptId → Plan = λ it. row_answered it round (row_at it old.prompts) in
+    let goes : PromptId → Plan = λ it. row_answered it round (row_at it old.prompts) (asked_collections (contents_of old)) in
     let plan : answer_prompt c.args.prompt round (asked conn brought old) ≡ goes prompt =
     ap (λ p. in_round p round (asked conn brought old) goes) c.in-Some.is ∙ ap (λ o. unless_refused o (goes prompt)) waits in
     leads-as folder.is_honest folder.is_steady folder.faults folder.images folder.may_leave folder.made slot.is_honest slot.is_steady slot.faults slot.moment slot.left_since slot.may_leave conn brought old _ _ _ _ _ done plan (leads brought))

@@ -3,6 +3,8 @@ use Rattle.std.specs.Option.{option_map}
 use Rattle.prompt_state.specs.Prompts.{first_of_row, last_round, row_at}
 use Rattle.prompt_state.specs.declared.targets.Target.{Target}
 use Rattle.service_calls.specs.Rows.{rows_of}
+use Rattle.service_calls.specs.service_tables.specs.Opened.{contents_of}
+use Rattle.service_calls.specs.service_tables.specs.Reading.{asked_collections}
 use Rattle.service_answers.proofs.AnswerLemmas.{answered-last, answered-target, none-first, taken-there}
 use Rattle.service_calls.proofs.LeadsLemmas.{leads-as, map-ok}
 use Rattle.service_answers.proofs.answering.take_answer.Goals as goal
@@ -21,7 +23,7 @@ returns-then-round-eq-LAST_ROUND-clause-leads g c =
     let there = taken-there c.args.prompt c.args.round conn old.prompts c.requires.taken in
     map-ok c.end_dismissed.result _ _
     (λ done leads brought. leads-as folder.is_honest folder.is_steady folder.faults folder.images folder.may_leave folder.made slot.is_honest slot.is_steady slot.faults slot.moment slot.left_since slot.may_leave conn brought old _ _ _ _ _ done
-    (answered-last c.args.prompt c.args.round row there c.if-round-eq-LAST_ROUND.true) (leads brought))
+    (answered-last c.args.prompt c.args.round (asked_collections (contents_of old)) row there c.if-round-eq-LAST_ROUND.true) (leads brought))
     c.end_dismissed.ensures.leads
 
 -- there is a first target
@@ -37,7 +39,7 @@ returns-in-Some-clause-leads g c =
     let below : c.args.round < last_round = omega (arith, c.if-round-eq-LAST_ROUND.false, c.ranges.round.fits) in
     map-ok c.answer_target.result _ _
     (λ done leads brought. leads-as folder.is_honest folder.is_steady folder.faults folder.images folder.may_leave folder.made slot.is_honest slot.is_steady slot.faults slot.moment slot.left_since slot.may_leave conn brought old _ _ _ _ _ done
-    (answered-target c.args.prompt c.args.round row stem below first) (leads brought))
+    (answered-target c.args.prompt c.args.round (asked_collections (contents_of old)) row stem below first) (leads brought))
     c.answer_target.ensures.leads
 
 pub answer_without_target-requires-clause-none : goal.answer_without_target-requires-clause-none

@@ -19,8 +19,8 @@ returns g c =
     let row = c.in-Some.row.now in
     let found : row_at c.args.prompt old.prompts ≡ Some row = sym c.row.ensures.row ∙ ap option_copied c.in-Some.is in
     let kind : c.pass_kind.new.kind ≡ passed_kind (asked_collections (contents_of old)) row.kind = c.pass_kind.ensures ∙ ap (passed_kind (asked_collections (contents_of old))) c.in_ok-kind.ensures in
-    let made : advance_sent old.collections (record row { wrong = 0 }) c.pass_kind.new.kind old.prompts.agent ≡ sent_all c.args.conn (Clear_wrong c.args.prompt ∷ Go_on c.args.prompt ∷ []) old =
-    ap (λ k. advance_sent old.collections (record row { wrong = 0 }) k old.prompts.agent) kind ∙ sym (cleared-sends c.args.conn c.args.prompt old row found) in
+    let made : advance_sent (asked_collections (contents_of old)) old.collections (record row { wrong = 0 }) c.pass_kind.new.kind old.prompts.agent ≡ sent_all c.args.conn (Clear_wrong c.args.prompt ∷ Go_on c.args.prompt ∷ []) old =
+    ap (λ k. advance_sent (asked_collections (contents_of old)) old.collections (record row { wrong = 0 }) k old.prompts.agent) kind ∙ sym (cleared-sends c.args.conn c.args.prompt old row found) in
     map-ok c.advance_sent.result _ _
     (λ sends is these. is these ∙ ap (spread these) made)
     c.advance_sent.ensures

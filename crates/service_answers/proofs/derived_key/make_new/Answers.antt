@@ -1,25 +1,25 @@
-use Rattle.std.proofs.Common.{◌≡◌, Some, None, false, true, Contains, List, inl, inr, sym, ap, subst, ◌∙◌, arith}
+use Rattle.std.proofs.Common.{◌≡◌, ◌++◌, Contains, List, sym, ap, subst, ◌∙◌, arith}
 use Rattle.key_derivation.specs.Kdf.{key_of, vector_of}
 use Rattle.service_calls.specs.collection_table.specs.Rows.{has, stored}
 use Rattle.service_calls.specs.service_disk.specs.Making as making
 use Rattle.service_calls.specs.service_disk.specs.Making.{AreFree}
-use Rattle.service_calls.specs.service_prompts.specs.Prompting.{completed_sent}
 use Rattle.service_calls.specs.service_tables.specs.Connections.{spread}
 use Rattle.service_calls.specs.service_tables.specs.Desks.{Table}
 use Rattle.service_calls.specs.service_tables.specs.Disk.{contents_in, disk_state}
 use Rattle.service_calls.specs.service_tables.specs.Opened.{Contents}
 use Rattle.service_calls.specs.service_tables.specs.State.{State}
 use Rattle.service_calls.specs.service_tables.specs.Storing.{Brought}
-use Rattle.service_calls.specs.service_tables.specs.declared.rows.ConnRow.{ConnRow}
+use Rattle.service_calls.specs.service_tables.specs.signal_fanout.specs.declared.rows.ConnRow.{ConnRow}
 use Rattle.service_calls.specs.service_tables.specs.declared.fate.StoreFate.TheVariants as fates
 use Rattle.service_calls.specs.service_events.specs.Derivation.{making_ended}
 use Rattle.service_calls.specs.service_events.specs.Plan.{Asks, KeyTerms, Make}
 use Rattle.service_answers.specs.Purposes.{SetsAlias}
 use Rattle.service_calls.specs.Rows.{disk_of, rows_of}
-use Rattle.service_calls.specs.service_events.specs.Run.{demanded}
+use Rattle.service_calls.specs.service_events.specs.Run.{demanded, sent_asked}
+use Rattle.service_answers.specs.Settled.{ended_sent}
 use Rattle.service_calls.specs.Done.{HasRoomToReply}
 use Rattle.service_answers.proofs.DerivedLemmas.{settles-as, settles-made}
-use Rattle.service_answers.proofs.NewLemmas.{free-aliases, sets-prepared}
+use Rattle.service_answers.proofs.NewLemmas.{ended-anyway, free-aliases, sets-prepared}
 use Rattle.service_answers.proofs.derived_key.make_new.Goals as goal
 
 -- the stem isn't used, and is free
@@ -103,13 +103,14 @@ returns-clause-settles g c =
     let after = rows_of c.end_made-done.new.tables in
     let new = disk_of c.end_made-done.new.tables in
     let done = c.end_made-done.result in
-    let dismissed = λ (these : List ConnRow). c.in_ok-stem.ensures.dismissed these ∙ sym (ap (λ (s : State). spread these (completed_sent prompt true None s.prompts)) rows) in
-    let completed = λ (these : List ConnRow). c.in_ok-stem.ensures.completed these ∙ sym (ap (λ (s : State). spread these (completed_sent prompt false (Some stem) s.prompts)) rows) in
+    let rest = spread old.connections.rows (ended_sent prompt stem fate old.prompts) in
+    let made_rest = λ (these : List ConnRow). ended-anyway prompt stem fate old.prompts old.connections.rows these ∙ sym (ap (λ (s : State). spread these (ended_sent prompt stem fate s.prompts)) rows) in
+    let said : done.sends ≡ spread old.connections.rows (sent_asked brought (Make stem label terms) fate old) ++ rest = c.end_made-done.ensures.sends ∙ c.by.ensures ∙ c.in_ok-stem.ensures.ends fate in
     settles-as folder.is_honest folder.is_steady folder.faults folder.images folder.may_leave folder.made slot.is_honest slot.is_steady slot.faults slot.moment slot.left_since slot.may_leave conn brought old after disk new _ (Asks (Make stem label terms) (making_ended prompt alias stem)) _
     (ap (λ s. Asks (Make s label terms) (making_ended prompt alias s)) (sym c.in_ok-stem.ensures.stem))
-    (settles-made folder.is_honest folder.is_steady folder.faults folder.images folder.may_leave folder.made slot.is_honest slot.is_steady slot.faults slot.moment slot.left_since slot.may_leave conn brought old after disk new prompt alias stem label terms mid (disk_state c.make.new.disk) fate done prepared.collections (disk_of c.prepare_new.new.tables)
+    (settles-made folder.is_honest folder.is_steady folder.faults folder.images folder.may_leave folder.made slot.is_honest slot.is_steady slot.faults slot.moment slot.left_since slot.may_leave conn brought old after disk new prompt alias stem label terms mid (disk_state c.make.new.disk) fate (record done { sends = rest }) done.sends said prepared.collections (disk_of c.prepare_new.new.tables)
     state (ap (λ (s : State). s.collections) rows) c.prepare_new.ensures.disk c.in_ok-fate.ensures.disk
-    (c.end_made-done.ensures.settles conn brought alias stem dismissed completed sets))
+    (c.end_made-done.ensures.settles conn brought alias stem rest made_rest sets))
 
 -- there is room for what is sent
 pub returns-clause-room : goal.returns-clause-room
@@ -117,10 +118,7 @@ returns-clause-room g c =
     let conn = c.args.conn in
     let rooms = c.prepare_new.new.tables.connections.rooms in
     subst (λ (table : Table). HasRoomToReply conn c.end_made-done.result.sends table.rooms) (sym c.end_made-done.ensures.room)
-    (elim c.end_made-done.ensures.sends [
-      | inl is ↦ subst (λ s. HasRoomToReply conn s rooms) (sym is) c.in_ok-stem.ensures.room.0
-      | inr is ↦ subst (λ s. HasRoomToReply conn s rooms) (sym is) c.in_ok-stem.ensures.room.1
-    ])
+    (subst (λ s. HasRoomToReply conn s rooms) (sym (c.end_made-done.ensures.sends ∙ c.by.ensures)) (c.in_ok-stem.ensures.room c.in_ok-fate.fate))
 
 -- each stem that isn't used is free
 pub returns-clause-free : goal.returns-clause-free

@@ -1,17 +1,44 @@
-use Rattle.std.proofs.Common.{[], Some, refl, sym, subst}
-use Rattle.service_calls.specs.Done.{HasRoomToReply}
-use Rattle.service_calls.proofs.LeadsLemmas.{room-sent}
-use Rattle.service_answers.proofs.NewLemmas.{room-either}
+use Rattle.std.proofs.Common.{◌++◌, Some, false, refl, ap, ◌∙◌}
+use Rattle.service_calls.specs.service_prompts.specs.Announcing.{announced, made_signals}
+use Rattle.service_calls.specs.service_prompts.specs.Prompting.{completed_sent}
+use Rattle.service_calls.specs.service_tables.specs.Connections.{spread}
+use Rattle.service_calls.specs.service_tables.specs.declared.fate.StoreFate.TheVariants as fate
+use Rattle.service_calls.specs.Rows.{rows_of}
+use Rattle.service_calls.proofs.LeadsLemmas.{room-keeps, room-sent}
 use Rattle.service_answers.proofs.derived_key.prepare_new.Goals as goal
 
--- both signals go to the owner of the prompt
+-- the stem isn't used
+pub returns-clause-unused : goal.returns-clause-unused
+returns-clause-unused g c = c.in_ok-stem.ensures.unused
+
+-- each of them was made
+pub returns-clause-ends : goal.returns-clause-ends
+returns-clause-ends g c =
+    let old = rows_of c.args.tables.now in
+    let rows = old.connections.rows in
+    let first = spread rows (announced (made_signals c.in_ok-stem.stem)) in
+    elim [
+      | fate.Stored ↦ c.in_ok-stored.ensures
+          ∙ ap (λ sent. first ++ sent) (c.in_ok-completed.ensures rows ∙ ap (λ stem. spread rows (completed_sent c.args.prompt false (Some stem) old.prompts)) c.in_ok-copy.ensures)
+      | fate.Before ↦ c.in_ok-before.ensures rows
+      | fate.Unsure ↦ c.in_ok-unsure.ensures ∙ ap (λ sent. first ++ sent) (c.in_ok-dismissed.ensures rows)
+    ]
+
+-- and there is room for each
 pub returns-clause-room : goal.returns-clause-room
 returns-clause-room g c =
     let conn = c.args.conn in
-    let rooms = c.reserve_for.new.self.rooms in
-    let completed = c.in_ok-completed.completed.items in
-    let room : HasRoomToReply conn completed rooms = room-sent conn c.deref.result.now completed completed rooms c.deref.ensures.value refl c.in_ok-reserve_for.ensures.room in (
-      subst (λ s. HasRoomToReply conn s rooms) (sym (c.in_ok-dismissed.ensures []))
-          (room-either conn c.args.prompt (Some c.in_ok-copy.field-0) c.args.tables.now.prompts [] rooms (subst (λ s. HasRoomToReply conn s rooms) (c.in_ok-completed.ensures []) room)),
-      room,
-    )
+    let stored = c.in_ok-stored.stored.items in
+    let before = c.in_ok-before.before.items in
+    let unsure = c.in_ok-unsure.unsure.items in
+    let first = c.reserve_for.new.self.rooms in
+    let second = c.reserve_for-2.new.self.rooms in
+    let rooms = c.reserve_for-3.new.self.rooms in
+    let one = room-sent conn c.deref.result.now stored stored first c.deref.ensures.value refl c.in_ok-reserve_for.ensures.room in
+    let other = room-sent conn c.deref-2.result.now before before second c.deref-2.ensures.value refl c.in_ok-reserve_for-2.ensures.room in
+    let last = room-sent conn c.deref-3.result.now unsure unsure rooms c.deref-3.ensures.value refl c.in_ok-reserve_for-3.ensures.room in
+    elim [
+      | fate.Stored ↦ room-keeps conn stored second rooms c.reserve_for-3.ensures.kept (room-keeps conn stored first second c.reserve_for-2.ensures.kept one)
+      | fate.Before ↦ room-keeps conn before second rooms c.reserve_for-3.ensures.kept other
+      | fate.Unsure ↦ last
+    ]

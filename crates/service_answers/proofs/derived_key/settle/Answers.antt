@@ -1,4 +1,4 @@
-use Rattle.std.proofs.Common.{◌≡◌, [], true, refl, sym, subst, ◌∙◌}
+use Rattle.std.proofs.Common.{◌≡◌, [], true, inl, refl, sym, subst, ◌∙◌}
 use Rattle.service_calls.specs.secret_calls.specs.declared.out.Out.{Out}
 use Rattle.service_calls.specs.secret_calls.specs.declared.out.Out.TheVariants as out
 use Rattle.service_calls.specs.secret_calls.specs.declared.signal.Completion.TheVariants as completion
@@ -10,12 +10,12 @@ use Rattle.service_calls.specs.service_tables.specs.Sound.{IsSoundPrompt}
 use Rattle.service_calls.specs.service_tables.specs.Storing.{Brought}
 use Rattle.service_calls.specs.service_tables.proofs.RoomLemmas.{room-zero}
 use Rattle.service_answers.specs.declared.derived_key.Settled.{Settled}
-use Rattle.service_calls.specs.service_events.specs.Derivation.{collection_made, derived}
+use Rattle.service_calls.specs.service_events.specs.Derivation.{collection_made, derived, password_changed}
 use Rattle.service_calls.specs.service_events.specs.Plan.{KeyTerms}
 use Rattle.service_answers.specs.Purposes.{IsPurposeOf}
 use Rattle.service_calls.specs.Rows.{disk_of, rows_of}
 use Rattle.service_calls.specs.service_events.specs.Run.{asked}
-use Rattle.service_answers.proofs.DerivedLemmas.{create-alias, create-plan, deriving-round, deriving-there, each-at, keeps-as, late-plan, map-err, settles-as, settles-late}
+use Rattle.service_answers.proofs.DerivedLemmas.{change-plan, create-alias, create-plan, deriving-round, deriving-there, each-at, keeps-as, late-plan, map-err, settles-as, settles-late}
 use Rattle.service_calls.proofs.LeadsLemmas.{map-ok, room-after}
 use Rattle.service_answers.proofs.derived_key.settle.Goals as goal
 
@@ -149,3 +149,43 @@ returns-in-Create-clause-kept g c =
     (derived prompt round terms asks) (collection_made prompt c.in-Create.label c.in-Create.alias c.in-Create.salt terms asks)
     (create-plan prompt round terms asks c.in-Create.label c.in-Create.alias c.in-Create.salt row on is))
     c.create.ensures.kept
+
+-- it changes a password
+pub change_password-requires-clause-there : goal.change_password-requires-clause-there
+change_password-requires-clause-there g c =
+    let row = row_at c.args.prompt (rows_of c.args.tables.now).prompts in
+    let on : derives_in c.args.round row ≡ true = sym c.derived.ensures ∙ c.if-not-derived.false in
+    deriving-there c.args.round row on
+
+pub returns-in-Change-clause-settles : goal.returns-in-Change-clause-settles
+returns-in-Change-clause-settles g c =
+    let folder = g.F.Folder in
+    let slot = g.F.Cell.Slot in
+    let conn = c.args.conn in
+    let prompt = c.args.prompt in
+    let round = c.args.round in
+    let key = c.args.key in
+    let brought : Brought = record { now = c.args.now; value = key.password } in
+    let terms : KeyTerms = record { salt = key.salt; iterations = key.iterations } in
+    let old = rows_of c.args.tables.now in
+    let row = row_at prompt old.prompts in
+    let asks = asked conn brought old in
+    let on : derives_in round row ≡ true = sym c.derived.ensures ∙ c.if-not-derived.false in
+    let is = subst (λ p. IsPurposeOf p row) c.in-Change.is c.in_ok-stem.ensures in
+    map-ok c.change_password.result _ _
+    (λ settled its. settles-as folder.is_honest folder.is_steady folder.faults folder.images folder.may_leave folder.made slot.is_honest slot.is_steady slot.faults slot.moment slot.left_since slot.may_leave conn brought old (rows_of c.change_password.new.tables) (disk_of c.args.tables.now) (disk_of c.change_password.new.tables)
+    (derived prompt round terms asks) (password_changed prompt c.in-Change.stem c.in-Change.salt terms asks) settled
+    (change-plan prompt round terms asks c.in-Change.stem c.in-Change.salt row on is) its)
+    c.change_password.ensures.settles
+
+pub returns-in-Change-clause-room : goal.returns-in-Change-clause-room
+returns-in-Change-clause-room g c =
+    let rooms = c.change_password.new.tables.connections.rooms in
+    let reply : Out = out.Signal (signal.Completed c.args.prompt true (completion.Object [])) in
+    map-ok c.change_password.result _ _ (λ settled room. room-after c.args.conn reply settled.done.sends rooms room) c.change_password.ensures.room
+
+pub returns-in-Change-clause-unchanged : goal.returns-in-Change-clause-unchanged
+returns-in-Change-clause-unchanged g c = map-err c.change_password.result _ _ (λ same. same.0) c.change_password.ensures.unchanged
+
+pub returns-in-Change-clause-kept : goal.returns-in-Change-clause-kept
+returns-in-Change-clause-kept g c = map-err c.change_password.result _ _ (λ same. inl same.1) c.change_password.ensures.unchanged

@@ -1,12 +1,18 @@
-use Rattle.std.proofs.Common.{◌≡◌, ◌∷◌, [], IfSome, None, true, refl, sym, ap, subst, ◌∙◌}
+use Rattle.std.proofs.Common.{◌≡◌, ◌∷◌, ◌++◌, [], IfSome, None, true, false, refl, sym, ap, subst, ◌∙◌}
 use Rattle.prompt_state.specs.Prompts.{row_at}
 use Rattle.prompt_state.specs.declared.row.PromptRow.{PromptRow}
 use Rattle.service_calls.specs.service_events.specs.PublicBody as public
 use Rattle.service_calls.specs.service_disk.specs.Opening.{opening_of}
 use Rattle.service_calls.specs.service_disk.specs.declared.opening.Opening.TheVariants as ends
+use Rattle.service_calls.specs.service_prompts.specs.Announcing.{announced, lock_signals}
+use Rattle.service_calls.specs.service_tables.specs.Connections.{spread}
+use Rattle.service_calls.specs.service_tables.specs.State.{State}
 use Rattle.service_calls.specs.service_tables.specs.Storing.{Brought}
+use Rattle.service_calls.specs.declared.storing.Done.{Done}
+use Rattle.service_calls.specs.service_events.specs.Announced.{opening_signals}
 use Rattle.service_calls.specs.service_events.specs.Derivation.{dismissing, opening_ended, quietly, wrong_again}
 use Rattle.service_calls.specs.service_events.specs.Plan.{Ask_prompt, Clear_wrong, End_prompt, Go_on, KeyTerms}
+use Rattle.service_calls.specs.service_events.specs.Run.{sent_all, sent_opened}
 use Rattle.service_calls.specs.Rows.{disk_of, rows_of}
 use Rattle.service_calls.specs.Done.{Leads}
 use Rattle.service_answers.proofs.DerivedLemmas.{disk-kept, if-all, if-some, leads-from, leads-opened}
@@ -142,13 +148,19 @@ returns-in-Ok-clause-leads g c = λ now.
     let how : opening_of key stem old.collections ≡ ends.Opened = sym its.opening ∙ c.in-Opened.is in
     let brought : Brought = record { now = now; value = key.password } in
     let done = c.in-Ok.done in
-    let after = rows_of c.go_on_cleared.new.tables in
-    let new = disk_of c.go_on_cleared.new.tables in
+    let after = rows_of c.go_on_opened.new.tables in
+    let new = disk_of c.go_on_opened.new.tables in
     let mid = rows_of c.open_with.new.tables in
+    let changes = Clear_wrong prompt ∷ Go_on prompt ∷ [] in
+    let rest = spread mid.connections.rows (sent_all conn changes mid) in
+    let advanced : Done = record done { sends = rest } in
+    let same : mid.connections.rows ≡ old.connections.rows = ap (λ (s : State). s.connections.rows) its.opened in
+    let sent : announced (lock_signals stem false) ≡ sent_opened brought stem terms old = ap (λ o. announced (opening_signals stem o)) (sym how) in
+    let said : done.sends ≡ spread old.connections.rows (sent_opened brought stem terms old) ++ rest = c.in-Ok.ensures.sends ∙ (λ i. spread (same i) (sent i) ++ rest) in
     if-all (row_at prompt old.prompts) _
     (λ row. leads-from folder.is_honest folder.is_steady folder.faults folder.images folder.may_leave folder.made slot.is_honest slot.is_steady slot.faults slot.moment slot.left_since slot.may_leave conn brought old after disk new _ (opening_ended prompt row.wrong stem terms ends.Opened) old disk done (ap (opening_ended prompt row.wrong stem terms) how) refl refl
-    (leads-opened folder.is_honest folder.is_steady folder.faults folder.images folder.may_leave folder.made slot.is_honest slot.is_steady slot.faults slot.moment slot.left_since slot.may_leave conn brought old after disk new stem terms public.Empty (Clear_wrong prompt) (Go_on prompt ∷ []) mid done its.opened
-    (leads-from folder.is_honest folder.is_steady folder.faults folder.images folder.may_leave folder.made slot.is_honest slot.is_steady slot.faults slot.moment slot.left_since slot.may_leave conn brought mid after disk new _ (quietly (Clear_wrong prompt ∷ Go_on prompt ∷ [])) mid (disk_of c.open_with.new.tables) done refl refl its.disk (c.in-Ok.ensures.leads brought))))
+    (leads-opened folder.is_honest folder.is_steady folder.faults folder.images folder.may_leave folder.made slot.is_honest slot.is_steady slot.faults slot.moment slot.left_since slot.may_leave conn brought old after disk new stem terms public.Empty (Clear_wrong prompt) (Go_on prompt ∷ []) mid advanced its.opened done.sends said
+    (leads-from folder.is_honest folder.is_steady folder.faults folder.images folder.may_leave folder.made slot.is_honest slot.is_steady slot.faults slot.moment slot.left_since slot.may_leave conn brought mid after disk new _ (quietly changes) mid (disk_of c.open_with.new.tables) advanced refl refl its.disk (c.in-Ok.ensures.leads brought rest refl))))
 
 pub returns-in-Ok-clause-disk : goal.returns-in-Ok-clause-disk
-returns-in-Ok-clause-disk g c = (c.in-Ok.ensures.leads (record { now = 0; value = [] })).disk ∙ c.in_ok-open_with.ensures.disk
+returns-in-Ok-clause-disk g c = c.go_on_opened.ensures.disk ∙ c.in_ok-open_with.ensures.disk

@@ -10,7 +10,8 @@ use Rattle.service_events.specs.Plan.{refused}
 use Rattle.service_calls.specs.Rows.{rows_of}
 use Rattle.service_events.specs.Run.{asked}
 use Rattle.service_events.specs.ServiceCalls.{no_collection, with_new_prompt}
-use Rattle.service_calls.proofs.LeadsLemmas.{few-is, leads-as, map-ok}
+use Rattle.service_calls.proofs.LeadsLemmas.{few-is, leads-as, map-ok, room-silent}
+use Rattle.service_calls.specs.declared.storing.Done.{Done}
 use Rattle.service_calls.proofs.tables.Tables.begin_creating.Goals as goal
 
 -- there are fewer collections than there may be, and a prompt begins
@@ -30,3 +31,8 @@ returns-clause-leads g c =
     ∙ (λ i. with_new_prompt true no_collection (kind.Create (sym c.in_ok-copy.ensures i) (sym c.in_ok-alias_text.ensures i) c.args.salt) asks))
     (leads brought no_collection (λ i. body.ObjectAndPrompt (c.in_ok-path_of.ensures.spelled i) (Some (record { 0 = c.next.ensures i })))))
     c.begin.ensures.leads
+
+-- what is refused sends nothing
+pub returns-then-count-clause-room : goal.returns-then-count-clause-room
+returns-then-count-clause-room g c =
+    room-silent c.args.conn c.refused.result.sends c.args.self.now.connections.rooms (ap (λ (done : Done). done.sends) c.refused.ensures) c.requires

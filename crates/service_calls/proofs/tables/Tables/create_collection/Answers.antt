@@ -9,7 +9,7 @@ use Rattle.service_calls.specs.Done.{reads}
 use Rattle.service_calls.specs.Rows.{rows_of}
 use Rattle.service_events.specs.Run.{asked}
 use Rattle.service_events.specs.ServiceCalls.{create_collection, creating, there_already}
-use Rattle.service_calls.proofs.LeadsLemmas.{leads-as, map-ok}
+use Rattle.service_calls.proofs.LeadsLemmas.{leads-as, map-ok, room-silent}
 use Rattle.service_calls.proofs.tables.Tables.create_collection.Goals as goal
 
 -- no alias is given that stands for a collection
@@ -36,3 +36,8 @@ returns-clause-leads g c = λ brought.
     let returned : List ℕ → Option (Result Body ErrorName) = λ path. Some (Ok (body.ObjectAndPrompt path None)) in
     c.answered.ensures.leads conn brought (create_collection c.args.label.now c.args.alias.now c.args.salt asks)
     (ap (λ o. reads conn old (there_already o next)) some ∙ ap returned (sym c.in_ok-collection_path.ensures))
+
+-- an answer alone sends nothing
+pub returns-clause-room : goal.returns-clause-room
+returns-clause-room g c =
+    room-silent c.args.conn c.answered.result.sends c.args.self.now.connections.rooms c.answered.ensures.silent c.requires

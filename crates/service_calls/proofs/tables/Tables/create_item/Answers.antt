@@ -7,7 +7,8 @@ use Rattle.service_events.specs.service_tables.specs.Storing.{Add_item, Brought,
 use Rattle.service_events.specs.CollectionCalls.{create_item, made, on_collection, secret_stored}
 use Rattle.service_calls.specs.Rows.{rows_of}
 use Rattle.service_events.specs.Run.{asked}
-use Rattle.service_calls.proofs.LeadsLemmas.{leads-as, map-ok}
+use Rattle.service_calls.proofs.LeadsLemmas.{leads-as, map-ok, room-silent}
+use Rattle.service_calls.specs.declared.storing.Done.{Done}
 use Rattle.service_calls.proofs.tables.Tables.create_item.Goals as goal
 
 -- the collection is there, and the edit is what the call says
@@ -28,3 +29,8 @@ returns-clause-leads g c =
     (λ done leads. leads-as folder.is_honest folder.is_steady folder.faults folder.images folder.may_leave folder.made slot.is_honest slot.is_steady slot.faults slot.moment slot.left_since slot.may_leave conn brought old _ _ _ _ _ done plan (leads edit secret.value
     (λ i. change.Add (c.in_ok-copy.ensures i) (c.in_ok-copy-2.ensures i) (c.in_ok-copy-3.ensures i) (c.in_ok-copy-4.ensures i) c.args.replace)))
     c.store_secret.ensures.leads
+
+-- what is refused sends nothing
+pub returns-in_default-clause-room : goal.returns-in_default-clause-room
+returns-in_default-clause-room g c =
+    room-silent c.args.conn c.refused.result.sends c.args.self.now.connections.rooms (ap (λ (done : Done). done.sends) c.refused.ensures) c.requires

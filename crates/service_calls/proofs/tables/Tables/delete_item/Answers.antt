@@ -7,7 +7,8 @@ use Rattle.service_events.specs.ItemCalls.{delete_item}
 use Rattle.service_events.specs.Plan.{refused}
 use Rattle.service_calls.specs.Rows.{rows_of}
 use Rattle.service_events.specs.Run.{asked}
-use Rattle.service_calls.proofs.LeadsLemmas.{leads-as, map-ok}
+use Rattle.service_calls.proofs.LeadsLemmas.{leads-as, map-ok, room-silent}
+use Rattle.service_calls.specs.declared.storing.Done.{Done}
 use Rattle.service_calls.proofs.tables.Tables.delete_item.Goals as goal
 
 -- the item is there and its collection unlocked, and it is removed
@@ -27,5 +28,14 @@ returns-clause-leads g c =
     let stores = storing stem edit (λ _. no_prompt) (storable_edit brought old.collections stem edit) in
     let plan : delete_item stem c.args.item (asked conn brought old) ≡ stores =
     ap (λ b. cond b (if_open stem (asked conn brought old) stores) (refused name.NoSuchObject)) there ∙ ap (λ b. cond b stores (refused name.IsLocked)) unlocked in
-    leads-as folder.is_honest folder.is_steady folder.faults folder.images folder.may_leave folder.made slot.is_honest slot.is_steady slot.faults slot.moment slot.left_since slot.may_leave conn brought old _ _ _ _ _ done plan (leads conn edit value refl))
+    leads-as folder.is_honest folder.is_steady folder.faults folder.images folder.may_leave folder.made slot.is_honest slot.is_steady slot.faults slot.moment slot.left_since slot.may_leave conn brought old _ _ _ _ _ done plan (leads edit value refl))
     c.store_edit.ensures.leads
+
+-- what is refused sends nothing
+pub returns-then-not-has_item-clause-room : goal.returns-then-not-has_item-clause-room
+returns-then-not-has_item-clause-room g c =
+    room-silent c.args.conn c.refused.result.sends c.args.self.now.connections.rooms (ap (λ (done : Done). done.sends) c.refused.ensures) c.requires
+
+pub returns-then-not-is_open-clause-room : goal.returns-then-not-is_open-clause-room
+returns-then-not-is_open-clause-room g c =
+    room-silent c.args.conn c.refused-then-not-is_open.result.sends c.args.self.now.connections.rooms (ap (λ (done : Done). done.sends) c.refused-then-not-is_open.ensures) c.requires

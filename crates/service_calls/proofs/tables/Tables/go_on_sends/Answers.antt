@@ -18,6 +18,6 @@ returns g c =
     let found : row_at c.args.prompt old.prompts ≡ Some row = sym c.row.ensures.row ∙ ap option_copied c.in-Some.is in
     let kind : c.pass_kind.new.kind ≡ passed_kind asked row.kind = c.pass_kind.ensures ∙ ap (passed_kind asked) c.in_ok-kind.ensures in
     map-ok c.advance_sent.result _ _
-    (λ sends is rows. is rows ∙ ap (λ k. spread rows (advance_sent old.collections row k old.prompts.agent)) kind
+    (λ sends is rows. is rows ∙ ap (λ k. spread rows (advance_sent asked old.collections row k old.prompts.agent)) kind
     ∙ sym (ap (λ o. spread rows (go_on_sent asked old.collections old.prompts.agent o)) found))
     c.advance_sent.ensures

@@ -18,8 +18,9 @@ returns-clause-leads g c =
     let old = rows_of c.args.self.now in
     let objects = c.args.objects.now in
     let its = public.ObjectsAndPrompt (paths_of (once (filter (is_there (asked_collections (contents_of old))) objects))) None in
+    let found = c.in_ok-stems.ensures ∙ ap service.in_order (c.deref.ensures.value ∙ c.in_ok-around.ensures) in
     map-ok c.perform_if_small.result _ _
-    (λ done leads brought. leads conn brought its (service.lock objects (asked conn brought old))
+    (λ done leads brought. leads brought its (service.lock objects (asked conn brought old))
     (ap (λ paths. body.ObjectsAndPrompt paths None) (c.new.ensures ∙ c.in_ok-paths.ensures))
-    (ap (λ stems. answered its (map Lock_collection stems)) (sym c.in_ok-stems.ensures)))
+    (ap (λ stems. answered its (map Lock_collection stems)) (sym found)))
     c.perform_if_small.ensures.leads

@@ -8,5 +8,5 @@ pub returns-clause-leads : goal.returns-clause-leads
 returns-clause-leads g c =
     let edit : Edit = Set_label c.args.item c.args.label.now in
     map-ok c.store_of_item.result _ _
-    (λ done leads value. leads c.args.conn edit value (λ i. change.SetLabel c.args.item (c.in_ok-label.ensures i)))
+    (λ done leads value. leads edit value (λ i. change.SetLabel c.args.item (c.in_ok-label.ensures i)))
     c.store_of_item.ensures.leads

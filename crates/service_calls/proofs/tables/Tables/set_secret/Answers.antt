@@ -9,7 +9,8 @@ use Rattle.service_events.specs.Plan.{refused}
 use Rattle.service_events.specs.PublicBody as public
 use Rattle.service_calls.specs.Rows.{rows_of}
 use Rattle.service_events.specs.Run.{asked}
-use Rattle.service_calls.proofs.LeadsLemmas.{leads-as, map-ok}
+use Rattle.service_calls.proofs.LeadsLemmas.{leads-as, map-ok, room-silent}
+use Rattle.service_calls.specs.declared.storing.Done.{Done}
 use Rattle.service_calls.proofs.tables.Tables.set_secret.Goals as goal
 
 -- the item is there, and the edit is what the call says
@@ -30,3 +31,8 @@ returns-clause-leads g c =
     (λ done leads. leads-as folder.is_honest folder.is_steady folder.faults folder.images folder.may_leave folder.made slot.is_honest slot.is_steady slot.faults slot.moment slot.left_since slot.may_leave conn brought old _ _ _ _ _ done plan (leads edit secret.value
     (λ i. change.SetSecret c.args.item (c.in_ok-copy.ensures i) (c.in_ok-copy-2.ensures i))))
     c.store_secret.ensures.leads
+
+-- what is refused sends nothing
+pub returns-then-not-has_item-clause-room : goal.returns-then-not-has_item-clause-room
+returns-then-not-has_item-clause-room g c =
+    room-silent c.args.conn c.refused.result.sends c.args.self.now.connections.rooms (ap (λ (done : Done). done.sends) c.refused.ensures) c.requires

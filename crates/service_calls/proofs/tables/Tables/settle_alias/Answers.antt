@@ -60,7 +60,7 @@ returns-in-Some-clause-leads g c = λ conn brought alias stem prepared.
     let leads = subst (λ (s : State). Leads folder.is_honest folder.is_steady folder.faults folder.images folder.may_leave folder.made slot.is_honest slot.is_steady slot.faults slot.moment slot.left_since slot.may_leave conn brought (alias_stored alias stem (asked conn brought s)) s after mid new done) state
     (c.store_alias-in-Some.ensures.leads conn brought alias stem found) in
     leads-done folder.is_honest folder.is_steady folder.faults folder.images folder.may_leave folder.made slot.is_honest slot.is_steady slot.faults slot.moment slot.left_since slot.may_leave conn brought old after disk new _ _ _ c.after.ensures
-    (settles-read folder.is_honest folder.is_steady folder.faults folder.images folder.may_leave folder.made slot.is_honest slot.is_steady slot.faults slot.moment slot.left_since slot.may_leave conn brought Aliases_file (refused name.IOError) (alias_stored alias stem) old after disk new mid done doubt c.store_alias-in-Some.ensures.unread read well stores leads)
+    (settles-read folder.is_honest folder.is_steady folder.faults folder.images folder.may_leave folder.made slot.is_honest slot.is_steady slot.faults slot.moment slot.left_since slot.may_leave conn brought Aliases_file (refused name.IOError) (alias_stored alias stem) old after disk new mid done doubt c.store_alias-in-Some.ensures.unread read well done.sends refl stores leads)
 
 -- it couldn't be read
 pub returns-in-None-clause-leads : goal.returns-in-None-clause-leads
@@ -77,7 +77,7 @@ returns-in-None-clause-leads g c = λ conn brought alias stem prepared.
     let state = ap (λ (contents : Contents). record old { collections = contents.collections; aliases = contents.aliases; used = contents.used }) its.resolved in
     let stores = for-moved slot.is_honest slot.is_steady slot.faults slot.moment slot.left_since slot.may_leave (fate.Read read) old.aliases _ _ disk new (ap (λ (contents : Contents). contents.aliases) its.resolved) its.disk in
     leads-done folder.is_honest folder.is_steady folder.faults folder.images folder.may_leave folder.made slot.is_honest slot.is_steady slot.faults slot.moment slot.left_since slot.may_leave conn brought old _ disk new _ _ _ c.unread.ensures
-    (settles-unread folder.is_honest folder.is_steady folder.faults folder.images folder.may_leave folder.made slot.is_honest slot.is_steady slot.faults slot.moment slot.left_since slot.may_leave conn brought Aliases_file (refused name.IOError) (alias_stored alias stem) old _ disk new new (record { answer = Err name.IOError; sends = []; read = None; fate = None }) doubt refl read failed stores
+    (settles-unread folder.is_honest folder.is_steady folder.faults folder.images folder.may_leave folder.made slot.is_honest slot.is_steady slot.faults slot.moment slot.left_since slot.may_leave conn brought Aliases_file (refused name.IOError) (alias_stored alias stem) old _ disk new new (record { answer = Err name.IOError; sends = []; read = None; fate = None }) doubt refl read failed [] refl stores
     (leads-refused folder.is_honest folder.is_steady folder.faults folder.images folder.may_leave folder.made slot.is_honest slot.is_steady slot.faults slot.moment slot.left_since slot.may_leave conn brought _ _ new new name.IOError state refl))
 
 -- all else of the disk stays

@@ -6,7 +6,8 @@ use Rattle.service_events.specs.PropertyCalls.{editing, editing_item}
 use Rattle.service_events.specs.Plan.{refused}
 use Rattle.service_calls.specs.Rows.{rows_of}
 use Rattle.service_events.specs.Run.{asked}
-use Rattle.service_calls.proofs.LeadsLemmas.{leads-as, map-ok}
+use Rattle.service_calls.proofs.LeadsLemmas.{leads-as, map-ok, room-silent}
+use Rattle.service_calls.specs.declared.storing.Done.{Done}
 use Rattle.service_calls.proofs.tables.Tables.store_of_item.Goals as goal
 
 -- the item is there, and the edit is stored
@@ -14,13 +15,19 @@ pub returns-clause-leads : goal.returns-clause-leads
 returns-clause-leads g c =
     let folder = g.F.Folder in
     let slot = g.F.Cell.Slot in
+    let conn = c.args.conn in
     let old = rows_of c.args.self.now in
     let stem = c.args.stem.now in
     let there : has_item stem c.args.item.0 old.collections ≡ true = sym c.has_item.ensures ∙ c.if-not-has_item.false in
     map-ok c.store_if_open.result _ _
-    (λ done leads conn edit value is.
+    (λ done leads edit value is.
     let brought : Brought = record { now = c.args.now; value = value } in
     let stores = editing stem edit (asked conn brought old) in
     let plan : editing_item stem c.args.item edit (asked conn brought old) ≡ stores = ap (λ b. cond b stores (refused name.NoSuchObject)) there in
-    leads-as folder.is_honest folder.is_steady folder.faults folder.images folder.may_leave folder.made slot.is_honest slot.is_steady slot.faults slot.moment slot.left_since slot.may_leave conn brought old _ _ _ _ _ done plan (leads conn edit value is))
+    leads-as folder.is_honest folder.is_steady folder.faults folder.images folder.may_leave folder.made slot.is_honest slot.is_steady slot.faults slot.moment slot.left_since slot.may_leave conn brought old _ _ _ _ _ done plan (leads edit value is))
     c.store_if_open.ensures.leads
+
+-- what is refused sends nothing
+pub returns-then-not-has_item-clause-room : goal.returns-then-not-has_item-clause-room
+returns-then-not-has_item-clause-room g c =
+    room-silent c.args.conn c.refused.result.sends c.args.self.now.connections.rooms (ap (λ (done : Done). done.sends) c.refused.ensures) c.requires

@@ -9,7 +9,7 @@ use Rattle.service_events.specs.PublicBody as public
 use Rattle.service_calls.specs.Rows.{disk_of, rows_of}
 use Rattle.service_events.specs.Run.{asked}
 use Rattle.service_events.specs.ServiceCalls.{unlock, unlocking, with_new_prompt}
-use Rattle.service_calls.proofs.LeadsLemmas.{leads-as, map-ok, none-are, plan-targets}
+use Rattle.service_calls.proofs.LeadsLemmas.{leads-as, map-ok, none-are, plan-targets, room-silent}
 use Rattle.service_calls.proofs.tables.Tables.unlock.Goals as goal
 
 -- there is nothing to unlock
@@ -48,3 +48,8 @@ returns-clause-leads g c =
     leads-as folder.is_honest folder.is_steady folder.faults folder.images folder.may_leave folder.made slot.is_honest slot.is_steady slot.faults slot.moment slot.left_since slot.may_leave conn brought old _ _ _ _ _ done plan
     (leads brought (public.ObjectsAndPrompt c.new-2.result) (λ i. body.ObjectsAndPrompt c.new-2.result (Some (record { 0 = c.next.ensures i })))))
     c.begin.ensures.leads
+
+-- an answer alone sends nothing
+pub returns-then-are_none-clause-room : goal.returns-then-are_none-clause-room
+returns-then-are_none-clause-room g c =
+    room-silent c.args.conn c.answered.result.sends c.args.self.now.connections.rooms c.answered.ensures.silent c.requires

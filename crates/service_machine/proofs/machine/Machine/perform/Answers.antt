@@ -1,6 +1,6 @@
 use Rattle.std.proofs.Common.{[], sym}
 use Rattle.service_answers.specs.service_calls.proofs.LeadsLemmas.{map-ok}
-use Rattle.service_machine.proofs.RoomLemmas.{room_kept, room_left}
+use Rattle.service_machine.proofs.RoomLemmas.{room_kept}
 use Rattle.service_machine.proofs.machine.Machine.perform.Goals as goal
 
 -- the row is performed as its function says, whatever the request brings
@@ -30,6 +30,9 @@ returns-in-SetAlias-clause-leads g c = rw c.in-SetAlias.is (map-ok c.set_alias.r
 -- so does a prompt that begins
 pub returns-in-CreateCollection-clause-leads : goal.returns-in-CreateCollection-clause-leads
 returns-in-CreateCollection-clause-leads g c = rw c.in-CreateCollection.is (map-ok c.create_collection.result _ _ (λ done leads. leads _) c.create_collection.ensures.leads)
+
+pub returns-in-ChangePassword-clause-leads : goal.returns-in-ChangePassword-clause-leads
+returns-in-ChangePassword-clause-leads g c = rw c.in-ChangePassword.is (map-ok c.change_password.result _ _ (λ done leads. leads _) c.change_password.ensures.leads)
 
 pub returns-in-Unlock-clause-leads : goal.returns-in-Unlock-clause-leads
 returns-in-Unlock-clause-leads g c = rw (c.in-Unlock.is, sym c.as_slice-in-Unlock.ensures) (map-ok c.unlock.result _ _ (λ done leads. leads _) c.unlock.ensures.leads)
@@ -64,11 +67,5 @@ pub returns-in-SetCollectionLabel-clause-leads : goal.returns-in-SetCollectionLa
 returns-in-SetCollectionLabel-clause-leads g c = rw c.in-SetCollectionLabel.is (map-ok c.set_collection_label.result _ _ (λ done leads. leads _) c.set_collection_label.ensures.leads)
 
 -- what sends nothing leaves room for the reply
-pub returns-in-CreateItem-clause-room : goal.returns-in-CreateItem-clause-room
-returns-in-CreateItem-clause-room g c = room_left c.args.conn c.create_item.result _ _ c.create_item.ensures.silent c.create_item.ensures.room c.requires
-
-pub returns-in-SetSecret-clause-room : goal.returns-in-SetSecret-clause-room
-returns-in-SetSecret-clause-room g c = room_left c.args.conn c.set_secret.result _ _ c.set_secret.ensures.silent c.set_secret.ensures.room c.requires
-
 pub returns-in-Unregister-clause-room : goal.returns-in-Unregister-clause-room
 returns-in-Unregister-clause-room g c = room_kept c.args.conn c.unregister.result _ _ c.unregister.ensures.silent c.unregister.ensures.room c.requires
