@@ -2,7 +2,7 @@
 use Rattle.std.proofs.Common.{◌≡◌, ◌+◌, ◌<◌, ◌≤◌, Bool, true, false, [], Option, Some, None, Result, Ok, Err, IfOk, OnOk, IsTrue, refl, ap, ◌∙◌, sym, subst, arith, inl, inr}
 use Rattle.std.proofs.lemmas.List.{length_push}
 use Rattle.kr_base.specs.declared.ids.ConnId.{ConnId}
-use Rattle.service_desk.specs.service_tables.specs.declared.rows.DeskRow.{DeskRow}
+use Rattle.service_desk.specs.service_tables.specs.signal_fanout.specs.declared.rows.DeskRow.{DeskRow}
 use Rattle.service_desk.specs.service_events.specs.declared.event.Event.{Event}
 use Rattle.service_desk.specs.service_events.specs.declared.event.Event.TheVariants as event
 use Rattle.service_desk.specs.service_events.specs.declared.event.Output.{Output}

@@ -1,6 +1,7 @@
 -- Where a desk is in the service's history, and how one of its calls continues from there.
 use Rattle.std.specs.Prelude.{◌≡◌, ℕ, ◌+◌, Bool, IsTrue, List, [], length, Option}
 use Rattle.atomic_table.specs.Seated.{TableId}
+use Rattle.shared_turn.specs.declared.share.Share.{Share}
 use Rattle.kr_base.specs.declared.ids.ConnId.{ConnId}
 use Rattle.service_events.specs.service_tables.specs.State.{State}
 use Rattle.service_events.specs.declared.event.Event.{Event}
@@ -10,12 +11,17 @@ use Rattle.service_events.specs.Step.{step, output_of, Fits}
 use Rattle.service_events.specs.Replay.{replay, Legal}
 use Rattle.service_desk.specs.Views.{View, with_others, with_own}
 
+-- a service that threads share, and which passes of it a desk stands for
+pub record Home : Type 0 where
+  pub table : TableId
+  pub share : Share
+
 -- what is known of a desk, and of the service as far as the desk has seen it
 pub record Told : Type 0 where
   -- the connection that the desk belongs to
   pub conn : ConnId
-  -- the service that threads share and the desk belongs to; None for a service of one thread
-  pub home : Option TableId
+  -- the service that threads share and the desk belongs to, and its passes; None for a service of one thread
+  pub home : Option Home
   -- the service's state
   pub state : State
   -- the number of events of the run up to that state
@@ -36,7 +42,7 @@ pub record Place : Type 1 where
 abbrev pub place : {D : Type 0} → (D → Told) → (D → View → Type 0) → D → Place
 place told has_seen desk = record { told = told desk; has_seen = has_seen desk }
 
--- the desk is the same one, of the same service, and behaves as before
+-- the desk is the same one, of the same service, with the same passes, and behaves as before
 pub record IsSame (old new : Told) : Type 0 where
   pub conn : new.conn ≡ old.conn
   pub home : new.home ≡ old.home

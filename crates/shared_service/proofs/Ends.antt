@@ -3,7 +3,7 @@ use Rattle.std.proofs.Common.{◌≡◌, ℕ, ◌+◌, ◌<◌, Bool, true, fals
 use Rattle.std.proofs.lemmas.List.{length_push}
 use Rattle.kr_base.specs.declared.ids.ConnId.{ConnId}
 use Rattle.service_desk.specs.service_tables.specs.State.{State}
-use Rattle.service_desk.specs.service_tables.specs.declared.rows.DeskRow.{DeskRow}
+use Rattle.service_desk.specs.service_tables.specs.signal_fanout.specs.declared.rows.DeskRow.{DeskRow}
 use Rattle.service_desk.specs.secret_calls.specs.declared.taken.Refused.{Refused}
 use Rattle.service_desk.specs.secret_calls.specs.declared.work.Work.{Work}
 use Rattle.service_desk.specs.service_events.specs.declared.event.Arrival.{Arrival}
@@ -26,7 +26,7 @@ use Rattle.shared_turn.proofs.Histories.{longer-is}
 use Rattle.shared_turn.proofs.Seating.{some-is}
 use Rattle.shared_service.specs.Ends.{IsEnd, IsAsSteady, StandsFor}
 use Rattle.shared_service.specs.Tries.{after_take}
-use Rattle.shared_service.specs.Passes.{start_or, steady_or, view_of, IsIdle}
+use Rattle.shared_service.specs.Passes.{start_or, steady_or, home_of, view_of, IsIdle}
 use Rattle.shared_service.specs.Standing.{Start, Stands, newest}
 use Rattle.shared_service.proofs.Standing.{total-stands, state-stands, stands-with, stands-due, newest-due, newest-push}
 
@@ -139,22 +139,22 @@ module _ (old pass : turn.View Start Event) (between : List Event) (is : pass �
   view-some None = refl
   view-some (Some event) = refl
 
-  table-some : (event : Option Event) → (ended event (turn.inside between old)).table ≡ old.table
-  table-some None = refl
-  table-some (Some event) = refl
+  home-some : (event : Option Event) → home_of (ended event (turn.inside between old)) ≡ home_of old
+  home-some None = refl
+  home-some (Some event) = refl
 
   start-some : (event : Option Event) → (ended event (turn.inside between old)).start ≡ old.start
   start-some None = refl
   start-some (Some event) = refl
 
-  -- the pass after the call: it is idle, of the same service, its view has the event, and its run began as it did
+  -- the pass after the call: it is idle, of the same service and with the same passes, its view has the event, and its run began as it did
   pub done : (event : Option Event) (new : History) (count : ℕ) (last : turn.View Start Event) → FitsSome service event → Became service event new → count ≡ total service.window
       → (total new.window ≡ count → last ≡ turn.outside pass) → ((one : Event) → (total new.window ≡ count → ⊥) → newest new.window.events ≡ one ∷ [] → last ≡ turn.recorded one pass)
-      → IsIdle last × (last.table ≡ old.table) × (view_of last ≡ viewed event (with_others between (view_of old))) × (steady_or last.start ≡ steady_or old.start)
+      → IsIdle last × (home_of last ≡ home_of old) × (view_of last ≡ viewed event (with_others between (view_of old))) × (steady_or last.start ≡ steady_or old.start)
   done event new count last fits same counted none one =
       let is-last = ended-some event new count last same counted none one in (
         subst IsIdle (sym is-last) (idle-some event fits),
-        ap (λ (p : turn.View Start Event). p.table) is-last ∙ table-some event,
+        ap home_of is-last ∙ home-some event,
         ap view_of is-last ∙ view-some event,
         ap (λ (p : turn.View Start Event). steady_or p.start) is-last ∙ ap steady_or (start-some event),
       )

@@ -1,4 +1,5 @@
 pub mod Calls
 pub mod Ends
 pub mod Recording
+pub mod Rest
 pub mod Standing

@@ -17,7 +17,7 @@ use Rattle.service_desk.specs.Views.{with_others}
 use Rattle.service_desk.specs.Calls.{Arrives, Finishes, IsRefusal}
 use Rattle.shared_turn.specs.Passes as turn
 use Rattle.shared_service.specs.Ends.{IsEnd, IsAsSteady}
-use Rattle.shared_service.specs.Passes.{steady_or, told, spot, view_of, IsIdle}
+use Rattle.shared_service.specs.Passes.{steady_or, home_of, told, spot, view_of, IsIdle}
 use Rattle.shared_service.specs.Standing.{Start, Stands, IsLedTo, newest}
 use Rattle.shared_service.proofs.Ends.{Became, end-some, done, viewed, stands-view, steady-found, steady-still, event_if, fates_if, key_if, stores-if, stores-key, fits-if, became-if}
 use Rattle.shared_service.proofs.Calls.{arrives-if, finishes-if, looks-if, refused-if}
@@ -34,11 +34,11 @@ pub record IsAnswered {T : Type 0} (conn : ConnId) (service new : History) (resu
 -- the pass after the call: it is idle and of the same run, and its view shows what was recorded, or why nothing was
 pub record HasCalled {T : Type 0} (conn : ConnId) (Records : Place → Place → T → Type 0) (old last : turn.View Start Event) (result : Result T Refused) : Type 0 where
   pub idle : IsIdle last
-  pub table : last.table ≡ old.table
+  pub home : home_of last ≡ home_of old
   pub steady : steady_or last.start ≡ steady_or old.start
-  pub recorded : IfOk result (Records (spot conn old.table (steady_or old.start) (view_of old)) (spot conn old.table (steady_or old.start) (view_of last)))
-  pub looked : OnErr result (Looks (spot conn old.table (steady_or old.start) (view_of old)) (spot conn old.table (steady_or old.start) (view_of last)))
-  pub cause : IfErr result (λ fault. IsRefusal fault (told conn old.table (steady_or old.start) (view_of last)))
+  pub recorded : IfOk result (Records (spot conn (home_of old) (steady_or old.start) (view_of old)) (spot conn (home_of old) (steady_or old.start) (view_of last)))
+  pub looked : OnErr result (Looks (spot conn (home_of old) (steady_or old.start) (view_of old)) (spot conn (home_of old) (steady_or old.start) (view_of last)))
+  pub cause : IfErr result (λ fault. IsRefusal fault (told conn (home_of old) (steady_or old.start) (view_of last)))
 
 -- what may be said when the service has answered: how its turn may end, and what the pass is then
 pub record Calls {T : Type 0} (conn : ConnId) (Records : Place → Place → T → Type 0) (old pass : turn.View Start Event) (service new : History) (result : Result T Refused) : Type 0 where
@@ -46,8 +46,8 @@ pub record Calls {T : Type 0} (conn : ConnId) (Records : Place → Place → T �
   pub called : (count : ℕ) (last : turn.View Start Event) → count ≡ total service.window → (total new.window ≡ count → last ≡ turn.outside pass)
       → ((one : Event) → (total new.window ≡ count → ⊥) → newest new.window.events ≡ one ∷ [] → last ≡ turn.recorded one pass) → HasCalled conn Records old last result
 
-module _ {F S : Type 0} (folder_steady : F → Bool) (slot_steady : S → Bool) (old pass : turn.View Start Event) (found new : ServiceState F S) (idle : IsIdle old) (between : List Event)
-    (is : pass ≡ turn.inside between old) (led : (start : Start) → old.start ≡ Some start → IsLedTo folder_steady slot_steady found start old.before pass.seen) where
+module _ {F S : Type 0} (folder_steady : F → Bool) (slot_steady : S → Bool) (old pass : turn.View Start Event) (found new : ServiceState F S) (sleepers : List ConnId) (due : Bool) (idle : IsIdle old) (between : List Event)
+    (is : pass ≡ turn.inside between old) (led : (start : Start) → old.start ≡ Some start → IsLedTo folder_steady slot_steady found sleepers due start old.before pass.seen) where
   abbrev service : History
   service = found.history
 
@@ -66,7 +66,7 @@ module _ {F S : Type 0} (folder_steady : F → Bool) (slot_steady : S → Bool) 
   calls : {T : Type 0} (conn : ConnId) (Records : Place → Place → T → Type 0) (event : T → Event) (result : Result T Refused) → IfOk result (λ value. Stores service (event value) new.history)
       → IsAnswered conn service new.history result
       → ((last : turn.View Start Event) → view_of last ≡ viewed (event_if event result) (with_others between (view_of old))
-      → IfOk result (Records (spot conn old.table (steady_or old.start) (view_of old)) (spot conn old.table (steady_or old.start) (view_of last))))
+      → IfOk result (Records (spot conn (home_of old) (steady_or old.start) (view_of old)) (spot conn (home_of old) (steady_or old.start) (view_of last))))
       → Calls conn Records old pass service new.history result
   calls conn Records event result stores answered shows =
       let became : Became service (event_if event result) new.history = became-if event service new.history result stores answered.unchanged answered.history in
@@ -77,11 +77,11 @@ module _ {F S : Type 0} (folder_steady : F → Bool) (slot_steady : S → Bool) 
             let end = done old pass between is idle service stands (event_if event result) new.history count last (fits-if event service new.history result stores) became counted none one in
             record {
               idle = end.0;
-              table = end.1;
+              home = end.1;
               steady = end.3;
               recorded = shows last end.2;
-              looked = looks-if conn old.table (steady_or old.start) (view_of old) (view_of last) between service stood event result end.2;
-              cause = refused-if conn old.table (steady_or old.start) (view_of old) (view_of last) between service stood event result answered.spent answered.not_spent answered.gone answered.memory end.2;
+              looked = looks-if conn (home_of old) (steady_or old.start) (view_of old) (view_of last) between service stood event result end.2;
+              cause = refused-if conn (home_of old) (steady_or old.start) (view_of old) (view_of last) between service stood event result answered.spent answered.not_spent answered.gone answered.memory end.2;
             };
       }
 
@@ -94,7 +94,7 @@ module _ {F S : Type 0} (folder_steady : F → Bool) (slot_steady : S → Bool) 
         subst (λ (b : Bool). IfOk result (λ work. StoresRequest b stored service arrival work new.history)) same stores in
         calls arrival.conn (λ before after work. Arrives before after arrival work) (λ _. with_fates arrival (fates_if (steady_or old.start) stored service arrival new.history result stores_it)) result
         (stores-if (steady_or old.start) stored service arrival new.history result stores_it) answered
-        (λ last shown. arrives-if arrival.conn old.table (steady_or old.start) (view_of old) (view_of last) between service (stands-view old pass between is idle service stands) stored arrival new.history result stores_it answered.not_spent shown)
+        (λ last shown. arrives-if arrival.conn (home_of old) (steady_or old.start) (view_of old) (view_of last) between service (stands-view old pass between is idle service stands) stored arrival new.history result stores_it answered.not_spent shown)
 
     -- a derived key
     pub finish-calls : (brought : BroughtKey) (result : Result (Unit {0}) Refused) → OnOk result (StoresKey (is_steady folder_steady slot_steady found.disk) stored service brought new.history)
@@ -104,4 +104,4 @@ module _ {F S : Type 0} (folder_steady : F → Bool) (slot_steady : S → Bool) 
         subst (λ (b : Bool). OnOk result (StoresKey b stored service brought new.history)) same stores in
         calls brought.conn (λ before after _. Finishes before after brought) (λ _. key_if (steady_or old.start) stored service brought new.history result stores_it) result
         (stores-key (steady_or old.start) stored service brought new.history result stores_it) answered
-        (λ last shown. finishes-if brought.conn old.table (steady_or old.start) (view_of old) (view_of last) between service (stands-view old pass between is idle service stands) stored brought new.history result stores_it answered.not_spent shown)
+        (λ last shown. finishes-if brought.conn (home_of old) (steady_or old.start) (view_of old) (view_of last) between service (stands-view old pass between is idle service stands) stored brought new.history result stores_it answered.not_spent shown)

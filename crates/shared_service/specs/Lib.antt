@@ -14,5 +14,6 @@ pub use Rattle.shared_turn
 pub mod Ends
 pub mod Kept
 pub mod Passes
+pub mod Sleepers
 pub mod Standing
 pub mod Tries

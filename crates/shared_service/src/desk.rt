@@ -19,7 +19,7 @@ pub struct SharedDesk<R: Wait, F: Folder> {
     service: Arc<SharedService<F>, Global>,
     pass: Pass<F>,
     conn: ConnId,
-    ghost fits: { pass.table ≡ arc_value service },
+    ghost fits: { pass.home.table ≡ arc_value service },
     ghost legal: { IsLegal pass.view } by { legal-prop pass.view },
     ghost places: { Rises pass.view } by { rises-prop pass.view },
 }
@@ -32,7 +32,7 @@ impl<R: Wait, F: Folder> SharedDesk<R, F> {
         pass: Pass<F>,
         conn: ConnId,
     ) -> SharedDesk<R, F>
-        requires { pass.table ≡ arc_value service }
+        requires { pass.home.table ≡ arc_value service }
         ensures { (result.pass ≡ pass) × (result.conn ≡ conn) × (result.service ≡ service) }
     {
         pass.has_seen_a_history();
@@ -59,7 +59,7 @@ impl<R: Wait, F: Folder> Desk for SharedDesk<R, F> {
     ghost use Rattle.shared_service.specs.Passes.{told};
     ghost use Rattle.shared_service.specs.Kept.{leads};
 
-    ghost told = { λ desk. told desk.conn desk.pass.table desk.pass.steady desk.pass.view };
+    ghost told = { λ desk. told desk.conn desk.pass.home desk.pass.steady desk.pass.view };
 
     ghost has_seen = { λ desk view. view ≡ desk.pass.view };
 

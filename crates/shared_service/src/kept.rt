@@ -1,3 +1,4 @@
+use crate::sleepers::Sleepers;
 use kr_outside::Folder;
 use service_history::Service;
 use service_history::service_machine::{Event, Machine};
@@ -22,10 +23,12 @@ impl<F: Folder> Model for Moment<F> {
     ghost view = { λ m. record { state = rows_of m.machine; steady = m.steady } };
 }
 
-/// The service that threads use by turns, in a box, so that a turn moves few bytes.
+/// The service that threads use by turns, and the writers that sleep, in boxes, so that a turn moves few
+/// bytes.
 #[derive(Drop)]
 pub struct Kept<F: Folder> {
     pub(crate) service: Box<Service<F>>,
+    pub(crate) sleepers: Box<Sleepers>,
 }
 
 impl<F: Folder> Chronicle for Kept<F> {
@@ -41,7 +44,8 @@ impl<F: Folder> Chronicle for Kept<F> {
 
     ghost events = { λ kept. kept.service.value.history.window.events };
 
-    ghost stands = { λ kept. IsLedTo F.is_steady F.Cell.is_steady kept.service.value };
+    ghost stands = { λ kept. IsLedTo F.is_steady F.Cell.is_steady kept.service.value
+        kept.sleepers.value.conns.items kept.sleepers.value.due };
 
     ghost newest = { λ kept. newest kept.service.value.history.window.events };
 }

@@ -6,10 +6,12 @@
 //! for something to take, sleeps.
 #![tactic(auto)]
 
+mod bells;
 mod desk;
 mod kept;
 mod pass;
 mod shared;
+mod sleepers;
 
 pub use desk::SharedDesk;
 pub use pass::Pass;

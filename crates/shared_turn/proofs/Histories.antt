@@ -1,8 +1,10 @@
 -- Histories that begin with others, and positions that rise.
-use Rattle.std.proofs.Common.{◌≡◌, ◌⊎◌, ℕ, ◌+◌, ◌<◌, ◌≤◌, ◌≢◌, Bool, true, false, nat_le, if◌then◌else◌, List, [], ◌∷◌, ◌++◌, length, refl, sym, ap, ◌∙◌, ⊎_elim, inl, inr, arith, append-nil}
+use Rattle.std.proofs.Common.{◌≡◌, ◌⊎◌, ℕ, zero, suc, ◌+◌, ◌<◌, ◌≤◌, ◌≢◌, Bool, true, false, nat_le, if◌then◌else◌, List, [], ◌∷◌, ◌++◌, length, refl, sym, ap, ◌∙◌, subst, ⊎_elim, inl, inr, arith, append-nil, length-append}
+use mathlib.Core.Logic.{dite}
+use native.Mathlib.Decide.{ℕ_discrete}
 use Rattle.std.proofs.lemmas.List.{append_assoc}
 use Rattle.std.proofs.lemmas.Bool.Decides.{nat_tests}
-use Rattle.shared_turn.specs.Places.{StartsWith, longer, shorter, ArePlaces, IsIn, inserted, merged}
+use Rattle.shared_turn.specs.Places.{StartsWith, longer, shorter, ArePlaces, IsIn, places_from, all_places, inserted, merged}
 
 at-most : (a b : ℕ) → nat_le a b ≡ true → a ≤ b
 at-most a b is = grind (arith, nat_tests)
@@ -148,3 +150,67 @@ places-merged from below (place ∷ places) others apart are more =
     places-inserted place from below (merged places others) are.0 bounds.1
     (λ there. ⊎_elim (λ (here : IsIn place places). let later = in-bounds (place + 1) below places place are.1 here in absurd (omega (arith, later.0))) (λ other. apart place (inl refl) other) (in-merged places others place there))
     (places-merged from below places others (λ x here other. apart x (inr here) other) rest more)
+
+-- a position stays one of those of a longer list
+pub in-more : (places more : List ℕ) (place : ℕ) → IsIn place places → IsIn place (places ++ more)
+in-more [] more place is = absurd is
+in-more (first ∷ places) more place is = ⊎_elim (λ (same : place ≡ first). inl same) (λ (other : IsIn place places). inr (in-more places more place other)) is
+
+-- the last one is in the list
+pub in-last : (places : List ℕ) (last : ℕ) → IsIn last (places ++ last ∷ [])
+in-last [] last = inl refl
+in-last (first ∷ places) last = inr (in-last places last)
+
+insert-if : (place first : ℕ) (places : List ℕ) (b : Bool) (x : ℕ) → (x ≡ place) ⊎ IsIn x (first ∷ places)
+    → ((x ≡ place) ⊎ IsIn x places → IsIn x (inserted place places)) → IsIn x (if b then place ∷ first ∷ places else first ∷ inserted place places)
+insert-if place first places true x is next = is
+insert-if place first places false x is next =
+    ⊎_elim (λ (same : x ≡ place). inr (next (inl same))) (λ rest. ⊎_elim (λ (same : x ≡ first). inl same) (λ (other : IsIn x places). inr (next (inr other))) rest) is
+
+insert-in : (place : ℕ) (places : List ℕ) (x : ℕ) → (x ≡ place) ⊎ IsIn x places → IsIn x (inserted place places)
+insert-in place [] x is = is
+insert-in place (first ∷ places) x is = insert-if place first places (nat_le place first) x is (insert-in place places x)
+
+-- what is in one of two lists is in the merged one
+pub merge-in : (places others : List ℕ) (x : ℕ) → IsIn x places ⊎ IsIn x others → IsIn x (merged places others)
+merge-in [] others x is = ⊎_elim (λ (none : ⊥). absurd none) (λ other. other) is
+merge-in (place ∷ places) others x is =
+    insert-in place (merged places others) x
+    (⊎_elim (λ (first : IsIn x (place ∷ places)). ⊎_elim (λ (same : x ≡ place). inl same) (λ (here : IsIn x places). inr (merge-in places others x (inl here))) first)
+    (λ (other : IsIn x others). inr (merge-in places others x (inr other))) is)
+
+-- all positions are positions, and each is one of them
+pub all-are : (from number : ℕ) → ArePlaces from (from + number) (places_from from number)
+all-are from zero = omega arith
+all-are from (suc number) = (omega arith, subst (λ (below : ℕ). ArePlaces (from + 1) below (places_from (from + 1) number)) (omega arith) (all-are (from + 1) number))
+
+pub in-places : (from number place : ℕ) → from ≤ place → place < from + number → IsIn place (places_from from number)
+in-places from zero place low high = absurd (omega (arith, low, high))
+in-places from (suc number) place low high =
+    dite (ℕ_discrete place from) (λ same. inl same) (λ differ. inr (in-places (from + 1) number place (omega (arith, low, differ)) (omega (arith, high))))
+
+-- positions among which each one is are all of them
+pub are-all : (from number : ℕ) (places : List ℕ) → ArePlaces from (from + number) places → ((place : ℕ) → from ≤ place → place < from + number → IsIn place places) → places ≡ places_from from number
+are-all from zero [] are all = refl
+are-all from zero (place ∷ places) are all = let bounds = in-bounds from (from + 0) (place ∷ places) place are (inl refl) in absurd (omega (arith, bounds.0, bounds.1))
+are-all from (suc number) [] are all = absurd (all from (omega arith) (omega arith))
+are-all from (suc number) (place ∷ places) are all =
+    let first : place ≡ from = ⊎_elim (λ (same : from ≡ place). sym same)
+    (λ (later : IsIn from places). let bounds = in-bounds (place + 1) (from + suc number) places from are.1 later in let low = are.0 in absurd (omega (arith, low, bounds.0)))
+    (all from (omega arith) (omega arith)) in
+    let rest : ArePlaces (from + 1) ((from + 1) + number) places =
+    subst (λ (below : ℕ). ArePlaces (from + 1) below places) (omega arith) (subst (λ (p : ℕ). ArePlaces (p + 1) (from + suc number) places) first are.1) in
+    (λ i. first i ∷ are-all (from + 1) number places rest
+    (λ x low high. ⊎_elim (λ (same : x ≡ place). absurd (omega (arith, low, same, first))) (λ (later : IsIn x places). later) (all x (omega (arith, low)) (omega (arith, high)))) i)
+
+-- If each position of a history is among those of a beginning of it, that is the whole history, and they are all positions.
+pub in-all : {E : Type 0} (seen between : List E) (places : List ℕ) → ArePlaces 0 (length seen) places → ((place : ℕ) → place < length (seen ++ between) → IsIn place places)
+    → (between ≡ []) × (places ≡ all_places (length seen))
+in-all seen [] places are all = (refl, are-all 0 (length seen) places (subst (λ (below : ℕ). ArePlaces 0 below places) (omega arith) are) (λ place low high. all place (let long = length-append seen [] in omega (arith, high, long))))
+in-all seen (event ∷ between) places are all =
+    let long = length-append seen (event ∷ between) in
+    let bounds = in-bounds 0 (length seen) places (length seen) are (all (length seen) (omega (arith, long))) in absurd (omega (arith, bounds.1))
+
+-- all positions of a history are positions in it
+pub all-are-places : (number : ℕ) → ArePlaces 0 number (all_places number)
+all-are-places number = subst (λ (below : ℕ). ArePlaces 0 below (all_places number)) (omega arith) (all-are 0 number)

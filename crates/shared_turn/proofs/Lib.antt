@@ -1,4 +1,5 @@
 pub mod Histories
 pub mod Keeps
+pub mod Owning
 pub mod Readies
 pub mod Seating

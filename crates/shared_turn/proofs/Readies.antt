@@ -40,6 +40,7 @@ module _ {S B E : Type 0} (meaning : S → B → ℕ → List E → Type 0) wher
         between = turns.between;
         is = λ i. view_of (tables i) (known i);
         stands = λ start at. subst (λ (z : S × List E). meaning z.0 start me.0.before z.1) (λ i. (values i, (sym known i).seen)) (turns.stands start at);
+        alone = turns.alone;
       }
 
   -- the value is back in the slot

@@ -39,6 +39,7 @@ module _ {B E : Type 0} where
   apart-turned one other apart = record {
     places = λ place first second. apart.places place second first;
     tickets = λ ticket first second. apart.tickets ticket second first;
+    firsts = λ first second. apart.firsts second first;
   }
 
   pub apart-set : (views : List (Known B E)) (id : ℕ) (w : Known B E)

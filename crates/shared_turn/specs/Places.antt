@@ -1,5 +1,5 @@
 -- Histories that begin with others, and positions in them.
-use Rattle.std.specs.Prelude.{◌≡◌, ◌⊎◌, ℕ, ◌+◌, ◌≤◌, nat_le, if◌then◌else◌, List, [], ◌∷◌, ◌++◌, length}
+use Rattle.std.specs.Prelude.{◌≡◌, ◌⊎◌, ℕ, zero, suc, ◌+◌, ◌≤◌, nat_le, if◌then◌else◌, List, [], ◌∷◌, ◌++◌, length}
 
 -- the history begins with what was seen
 abbrev pub StartsWith : {E : Type 0} → List E → List E → Type 0
@@ -17,6 +17,15 @@ shorter xs ys = if nat_le (length ys) (length xs) then ys else xs
 abbrev pub ArePlaces : ℕ → ℕ → List ℕ → Type 0
 ArePlaces from below [] = from ≤ below
 ArePlaces from below (place ∷ places) = (from ≤ place) × ArePlaces (place + 1) below places
+
+-- this many positions, one after the other
+abbrev pub places_from : ℕ → ℕ → List ℕ
+places_from from zero = []
+places_from from (suc number) = from ∷ places_from (from + 1) number
+
+-- all positions of a history of this length
+abbrev pub all_places : ℕ → List ℕ
+all_places number = places_from 0 number
 
 -- the position is one of these
 abbrev pub IsIn : ℕ → List ℕ → Type 0

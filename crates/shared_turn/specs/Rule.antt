@@ -6,7 +6,9 @@ use mathlib.Core.Option as maybe
 use lib.ListN.{get_elem?}
 use Rattle.atomic_table.specs.Table.{State}
 use Rattle.shared_turn.specs.declared.known.Known.{Known}
-use Rattle.shared_turn.specs.Places.{StartsWith, longer, shorter, ArePlaces, IsIn, merged}
+use Rattle.shared_turn.specs.Shares.{whole, one, without, together, IsFirst, noted_in, HasAny, LeavesOut}
+use Rattle.shared_turn.specs.declared.share.Share.TheVariants as share
+use Rattle.shared_turn.specs.Places.{StartsWith, longer, shorter, ArePlaces, IsIn, all_places, merged}
 
 -- one if there is a ticket, otherwise zero
 abbrev pub one_if : Option ℕ → ℕ
@@ -14,13 +16,17 @@ one_if None = 0
 one_if (Some ticket) = 1
 
 module _ {B E : Type 0} where
-  -- the first seat: what the value keeps of its history was seen
+  -- the first seat: what the value keeps of its history was seen, and all of it is the seat's own
   abbrev pub first_known : B → ℕ → List E → Known B E
-  first_known start before seen = record { start = Some start; before = before; seen = seen; own = []; met = []; met_start = Some start; met_before = before; ticket = None; has_turn = false }
+  first_known start before seen = record { start = Some start; before = before; seen = seen; own = all_places (length seen); share = whole; met = []; met_start = Some start; met_before = before; ticket = None; has_turn = false }
 
-  -- a new seat that has seen what this one has
+  -- the seat that a new one was noted from
+  abbrev pub giving : Known B E → Known B E
+  giving known = record known { share = without 1 known.share }
+
+  -- the new seat, which has seen what that one has
   abbrev pub noted : Known B E → Known B E
-  noted known = record { start = known.start; before = known.before; seen = known.seen; own = []; met = []; met_start = known.start; met_before = known.before; ticket = None; has_turn = false }
+  noted known = record { start = known.start; before = known.before; seen = known.seen; own = []; share = one; met = []; met_start = known.start; met_before = known.before; ticket = None; has_turn = false }
 
   -- a seat that also knows what another one does
   abbrev pub gathered : Known B E → Known B E → Known B E
@@ -29,6 +35,7 @@ module _ {B E : Type 0} where
     before = known.before;
     seen = longer known.seen other.seen;
     own = merged known.own other.own;
+    share = together known.share other.share;
     met = shorter known.seen other.seen;
     met_start = other.start;
     met_before = other.before;
@@ -38,17 +45,30 @@ module _ {B E : Type 0} where
 
   -- a seat that was joined to another
   abbrev pub spent : Known B E
-  spent = record { start = None; before = 0; seen = []; own = []; met = []; met_start = None; met_before = 0; ticket = None; has_turn = false }
+  spent = record { start = None; before = 0; seen = []; own = []; share = share.Only 0; met = []; met_start = None; met_before = 0; ticket = None; has_turn = false }
 
   -- the number of seats that have a ticket
   abbrev pub tickets : List (Known B E) → ℕ
   tickets [] = 0
   tickets (known ∷ others) = one_if known.ticket + tickets others
 
-  -- two seats have no own position in common, and no ticket
+  -- the number of noted passes that seats stand for
+  abbrev pub all_noted : List (Known B E) → ℕ
+  all_noted [] = 0
+  all_noted (known ∷ others) = noted_in known.share + all_noted others
+
+  -- the position is a seat's own
+  pub record IsOwned (views : List (Known B E)) (place : ℕ) : Type 0 where
+    pub owner : ℕ
+    pub known : Known B E
+    pub there : get_elem? views owner ≡ some known
+    pub own : IsIn place known.own
+
+  -- two seats have no own position in common, and no ticket, and only one is the first
   pub record AreApart (one other : Known B E) : Type 0 where
     pub places : (place : ℕ) → IsIn place one.own → IsIn place other.own → ⊥
     pub tickets : (ticket : ℕ) → one.ticket ≡ Some ticket → other.ticket ≡ Some ticket → ⊥
+    pub firsts : IsFirst one.share → IsFirst other.share → ⊥
 
 module _ {S B E : Type 0} where
   -- a seat has the turn, and the value
@@ -70,6 +90,7 @@ module _ {S B E : Type 0} (meaning : S → B → ℕ → List E → Type 0) (fro
     pub met_start : known.met_start ≡ Some from
     pub met_before : known.met_before ≡ earlier
     pub own : ArePlaces 0 (length known.seen) known.own
+    pub share : HasAny known.share
     pub ticket : (ticket : ℕ) → known.ticket ≡ Some ticket → (served ≤ ticket) × (ticket < drawn)
     pub turn : known.has_turn ≡ true → (known.ticket ≡ Some served) × (known.seen ≡ log)
 
@@ -84,7 +105,8 @@ module _ {S B E : Type 0} (meaning : S → B → ℕ → List E → Type 0) (fro
     pub stands : meaning value from earlier log
     pub free : (seat : ℕ) (known : Known B E) → get_elem? views seat ≡ some known → known.has_turn ≡ false
 
-  -- There is one history. Tickets are drawn in order, each is served in its turn, and each that isn't served yet is a seat's.
+  -- There is one history, in which each position is a seat's own. Tickets are drawn in order, each is served in its turn, and each that isn't
+  -- served yet is a seat's. The first seat stands for all passes but those that the others stand for.
   pub record Kept (state : State (Option S) (Known B E)) : Type 0 where
     pub log : List E
     pub drawn : ℕ
@@ -95,4 +117,6 @@ module _ {S B E : Type 0} (meaning : S → B → ℕ → List E → Type 0) (fro
     pub apart : (seat other : ℕ) (known others : Known B E) → (seat ≡ other → ⊥) → get_elem? state.views seat ≡ some known → get_elem? state.views other ≡ some others
         → AreApart known others
     pub waiting : served + tickets state.views ≡ drawn
+    pub shares : (seat : ℕ) (known : Known B E) → get_elem? state.views seat ≡ some known → LeavesOut (all_noted state.views) known.share
+    pub owned : (place : ℕ) → place < length log → IsOwned state.views place
     pub slot : IsHome log state.homes state.views ⊎ IsOut state.homes state.views

@@ -2,7 +2,8 @@
 use Rattle.std.specs.Prelude.{◌≡◌, ℕ, true, false, List, [], ◌∷◌, ◌++◌, length, Option, Some, None}
 use Rattle.atomic_table.specs.Table.{Me, Step, rest}
 use Rattle.shared_turn.specs.declared.known.Known.{Known}
-use Rattle.shared_turn.specs.Places.{StartsWith, ArePlaces}
+use Rattle.shared_turn.specs.Places.{StartsWith, ArePlaces, all_places}
+use Rattle.shared_turn.specs.Shares.{whole}
 
 module _ {S B E : Type 0} where
   -- a ticket was drawn if the number was the one that was expected
@@ -25,12 +26,14 @@ module _ {S B E : Type 0} where
     pub places : ArePlaces 0 (length old.0.seen) old.0.own
 
 module _ {S B E : Type 0} (meaning : S → B → ℕ → List E → Type 0) where
-  -- the seat has the turn, the slot with the value, and has seen the whole history
+  -- The seat has the turn, the slot with the value, and has seen the whole history. If it is the only one of the run, it had seen that before, and
+  -- each position is its own.
   pub record Turns (old new : Me (Option S) (Known B E)) : Type 0 where
     pub value : S
     pub between : List E
     pub is : new ≡ ((record old.0 { seen = old.0.seen ++ between; has_turn = true }), (0, Some value) ∷ old.1)
     pub stands : (start : B) → old.0.start ≡ Some start → meaning value start old.0.before (old.0.seen ++ between)
+    pub alone : old.0.share ≡ whole → (between ≡ []) × (old.0.own ≡ all_places (length old.0.seen))
 
   -- the turn has come if the number is the seat's ticket
   pub record entered (step : Step (Option S)) (old : Me (Option S) (Known B E)) (found : ℕ) (new : Me (Option S) (Known B E)) : Type 0 where

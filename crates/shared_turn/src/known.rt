@@ -1,4 +1,5 @@
 use crate::chronicle::Chronicle;
+use crate::share::Share;
 use atomic_table::{Join, Seat, Split, Table, TableRule};
 use std::alloc::Global;
 use std::collections::LinkedList;
@@ -15,6 +16,8 @@ pub struct Known<B, E> {
     pub seen: LinkedList<E>,
     /// The positions of its own events among them.
     pub own: LinkedList<u64>,
+    /// Which of the run's passes it stands for.
+    pub share: Share,
     /// What another seat that was joined to this one had seen, and where its run began.
     pub met: LinkedList<E>,
     pub met_start: Option<B>,
@@ -47,13 +50,13 @@ pub(crate) type Board<C: Chronicle> = Table<
 
 pub(crate) type Place<C: Chronicle> = Seat<Option<C>, Known<C::Start, C::Event>>;
 
-/// A new seat is made, which has seen the same and recorded nothing.
+/// A new seat is made, which has seen the same and recorded nothing. It stands for one pass more.
 pub(crate) struct Note;
 
 impl<B, E> Split<Known<B, E>> for Note {
-    ghost use Rattle.shared_turn.specs.Rule.{noted};
+    ghost use Rattle.shared_turn.specs.Rule.{giving, noted};
 
-    ghost left = { λ known. known };
+    ghost left = { giving };
 
     ghost right = { noted };
 }

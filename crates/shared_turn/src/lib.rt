@@ -9,8 +9,10 @@ mod chronicle;
 mod known;
 mod pass;
 mod plays;
+mod share;
 mod turn;
 
 pub use chronicle::Chronicle;
 pub use pass::Pass;
+pub use share::Share;
 pub use turn::Turn;

@@ -1,7 +1,8 @@
 ghost use Rattle.std.specs.Prelude.{◌≡◌, ◌<◌, ◌+◌, ℕ, length, true, false, IfOk, Some};
 ghost use Rattle.shared_turn.specs.Places.{StartsWith};
 ghost use Rattle.shared_turn.specs.Seats.{IsWithoutTicket, with_ticket, without_turn, HasSlot};
-ghost use Rattle.shared_turn.specs.Passes.{opened, noted, outside, recorded, IsMet, Stands, Enters, IsRecorded};
+ghost use Rattle.shared_turn.specs.Shares.{IsFirst};
+ghost use Rattle.shared_turn.specs.Passes.{opened, noted, giving, outside, recorded, IsMet, Stands, Enters, IsRecorded};
 
 use crate::chronicle::Chronicle;
 use crate::known::{Board, Gather, Note, Place};
@@ -32,8 +33,6 @@ pub struct Turn<C: Chronicle> {
     board: Board<C>,
     // The ticket at the end of whose turn a thread that sleeps without a ticket is woken.
     wakes_after: AtomicU64,
-    // How many threads sleep until another event is recorded.
-    awaiting: AtomicU64,
 }
 
 impl<C: Chronicle> Model for Turn<C> {
@@ -50,7 +49,7 @@ impl<C: Chronicle> Model for Turn<C> {
 
 impl<C: Chronicle> Turn<C> {
     /// Makes a turn over a value, and the first pass, which has seen the events that the value
-    /// still has. `count` is the number of all events of the run.
+    /// still has, and whose own they are. `count` is the number of all events of the run.
     ///
     /// Refused with `AllocError` if no memory is left; the value is dropped then.
     pub fn open(alloc: Global, value: C, count: u64) -> Result<(Turn<C>, Pass<C>), AllocError>
@@ -68,7 +67,6 @@ impl<C: Chronicle> Turn<C> {
                 let turn = Turn {
                     board,
                     wakes_after: AtomicU64::new(0),
-                    awaiting: AtomicU64::new(0),
                 };
                 Ok((turn, Pass { place }))
             }
@@ -117,7 +115,7 @@ impl<C: Chronicle> Turn<C> {
     }
 
     /// Waits for the turn, and returns the value as all that was recorded left it. Until the pass
-    /// gives it back, nobody else gets it.
+    /// gives it back, nobody else gets it. A pass that all others were gathered into recorded all of it.
     pub fn enter<R: Wait>(&self, rt: &R, pass: &mut Pass<C>) -> C
         requires table { pass.old.table ≡ self.now }
         requires outside { pass.old.has_turn ≡ false }
@@ -156,8 +154,7 @@ impl<C: Chronicle> Turn<C> {
         }
     }
 
-    /// Gives back the value, in which one more event was recorded, and passes the turn on. All
-    /// threads that sleep until there is another event are woken.
+    /// Gives back the value, in which one more event was recorded, and passes the turn on.
     pub fn record(&self, pass: &mut Pass<C>, value: C)
         requires table { pass.old.table ≡ self.now }
         requires inside { pass.old.has_turn ≡ true }
@@ -173,9 +170,6 @@ impl<C: Chronicle> Turn<C> {
             .shared
             .fetch_add::<Count<C>>(&mut pass.place, EVENTS, 1);
         self.hand(&mut pass.place);
-        if self.awaiting.load(Ordering::SeqCst) > 0 {
-            self.board.shared.wake_all(EVENTS);
-        }
     }
 
     /// Gives back the value, in which nothing more was recorded, and passes the turn on.
@@ -191,21 +185,13 @@ impl<C: Chronicle> Turn<C> {
         self.hand(&mut pass.place);
     }
 
-    /// Sleeps while the run has exactly `count` events, as far as the lower 32 bits of the number
-    /// show. It may also return for no reason.
-    pub fn sleep<R: Wait>(&self, rt: &R, count: u64) {
-        self.awaiting.fetch_add(1, Ordering::SeqCst);
-        self.board
-            .shared
-            .park(rt, EVENTS, (count % (1 << 32)) as u32);
-        self.awaiting.fetch_sub(1, Ordering::SeqCst);
-    }
-
-    /// A new pass, which has seen the same and recorded nothing.
+    /// A new pass, which has seen the same and recorded nothing. Only the first pass can note others, and knows
+    /// how many of them it hasn't gathered.
     pub fn note(&self, pass: &mut Pass<C>) -> Pass<C>
         requires table { pass.old.table ≡ self.now }
         requires outside { pass.old.has_turn ≡ false }
-        ensures same { pass.new ≡ pass.old }
+        requires first { IsFirst pass.old.share }
+        ensures given { pass.new ≡ giving pass.old }
         ensures noted { result ≡ noted pass.old }
     {
         let place = self.board.shared.split_seat::<Note>(&mut pass.place);

@@ -1,6 +1,6 @@
 use Rattle.std.proofs.Common.{Bool, sym, subst}
-use Rattle.atomic_table.specs.Seated.{TableId}
 use Rattle.service_desk.specs.Calls.{Takes}
+use Rattle.service_desk.specs.Places.{Home}
 use Rattle.shared_service.specs.Passes.{spot}
 use Rattle.shared_service.proofs.desk.SharedDeskWriteDesk.take.Goals as goal
 
@@ -16,5 +16,5 @@ returns g c =
     let conn = c.args.self.now.conn in
     let old = c.args.self.now.pass in
     let new = c.take-taken.new.pass in
-    subst (λ (table : TableId). Takes (spot conn old.table old.steady old.view) (spot conn table new.steady new.view) c.take-taken.result) (sym c.take-taken.ensures.same)
-    (subst (λ (steady : Bool). Takes (spot conn old.table old.steady old.view) (spot conn old.table steady new.view) c.take-taken.result) (sym c.take-taken.ensures.steady) c.take-taken.ensures.taken)
+    subst (λ (home : Home). Takes (spot conn old.home old.steady old.view) (spot conn home new.steady new.view) c.take-taken.result) (sym c.take-taken.ensures.same)
+    (subst (λ (steady : Bool). Takes (spot conn old.home old.steady old.view) (spot conn old.home steady new.view) c.take-taken.result) (sym c.take-taken.ensures.steady) c.take-taken.ensures.taken)

@@ -4,7 +4,7 @@ use Rattle.service_desk.specs.service_events.specs.declared.event.Output.TheVari
 use Rattle.service_desk.specs.service_events.specs.Fates.{is_steady}
 use Rattle.service_desk.specs.Views.{View}
 use Rattle.service_desk.specs.Places.{Extends}
-use Rattle.shared_service.specs.Passes.{Seen, steady_or, spot, view_of, IsRefused}
+use Rattle.shared_service.specs.Passes.{home_of, Seen, steady_or, spot, view_of, IsRefused}
 use Rattle.shared_service.proofs.Ends.{end-some, done, steady-still, stands-view, event_if, fits-if, became-if}
 use Rattle.shared_service.proofs.Calls.{joins-if, crowded-if}
 use Rattle.shared_service.proofs.shared.SharedService.connect.Goals as goal
@@ -27,7 +27,7 @@ invariant_of-pass g c =
 pub returns-clause-same : goal.returns-clause-same
 returns-clause-same g c =
     let e = c.enter-kept.ensures in let service = c.enter-kept.result.service.value.history in
-    (done c.pass.inside.inner c.enter-kept.new.pass e.between e.is c.pass.invariant service (λ start at. (e.stands start at).history) (event_if (λ conn. event.Connect conn) c.join-joined.result) c.join-joined.new.self.history c.total-count.result c.end.new.inner (fits-if (λ conn. event.Connect conn) service c.join-joined.new.self.history c.join-joined.result (rw c.deref_mut.ensures.value at c.join-joined.ensures.stores)) (became-if (λ conn. event.Connect conn) service c.join-joined.new.self.history c.join-joined.result (rw c.deref_mut.ensures.value at c.join-joined.ensures.stores) (rw c.deref_mut.ensures.value at c.join-joined.ensures.unchanged) c.join-joined.ensures.history) c.total-count.ensures.count c.end.ensures.same c.end.ensures.recorded).1 ∙ ap (λ (s : Seen). s.table) c.pass.view_is
+    (done c.pass.inside.inner c.enter-kept.new.pass e.between e.is c.pass.invariant service (λ start at. (e.stands start at).history) (event_if (λ conn. event.Connect conn) c.join-joined.result) c.join-joined.new.self.history c.total-count.result c.end.new.inner (fits-if (λ conn. event.Connect conn) service c.join-joined.new.self.history c.join-joined.result (rw c.deref_mut.ensures.value at c.join-joined.ensures.stores)) (became-if (λ conn. event.Connect conn) service c.join-joined.new.self.history c.join-joined.result (rw c.deref_mut.ensures.value at c.join-joined.ensures.stores) (rw c.deref_mut.ensures.value at c.join-joined.ensures.unchanged) c.join-joined.ensures.history) c.total-count.ensures.count c.end.ensures.same c.end.ensures.recorded).1 ∙ ap (λ (s : Seen). s.home) c.pass.view_is
 
 pub returns-clause-steady : goal.returns-clause-steady
 returns-clause-steady g c =
@@ -41,8 +41,8 @@ returns-clause-joined g c =
     let view : View = view_of c.pass.inside.inner in
     let steady = steady_or c.pass.inside.inner.start in
     let stands = stands-view c.pass.inside.inner c.enter-kept.new.pass e.between e.is c.pass.invariant service (λ start at. (e.stands start at).history) in
-    subst (λ (s : Seen). IfOk c.join-joined.result (λ conn. Extends (spot conn s.table s.steady s.view) (spot conn s.table s.steady (view_of c.end.new.inner)) (event.Connect conn) (output.Joined conn))) c.pass.view_is
-    (joins-if c.pass.inside.inner.table steady view (view_of c.end.new.inner) e.between service stands c.join-joined.new.self.history c.join-joined.result (rw c.deref_mut.ensures.value at c.join-joined.ensures.stores) last)
+    subst (λ (s : Seen). IfOk c.join-joined.result (λ conn. Extends (spot conn s.home s.steady s.view) (spot conn s.home s.steady (view_of c.end.new.inner)) (event.Connect conn) (output.Joined conn))) c.pass.view_is
+    (joins-if (home_of c.pass.inside.inner) steady view (view_of c.end.new.inner) e.between service stands c.join-joined.new.self.history c.join-joined.result (rw c.deref_mut.ensures.value at c.join-joined.ensures.stores) last)
 
 pub returns-clause-refused : goal.returns-clause-refused
 returns-clause-refused g c =
@@ -51,5 +51,5 @@ returns-clause-refused g c =
     let view : View = view_of c.pass.inside.inner in
     let steady = steady_or c.pass.inside.inner.start in
     let stands = stands-view c.pass.inside.inner c.enter-kept.new.pass e.between e.is c.pass.invariant service (λ start at. (e.stands start at).history) in
-    subst (λ (s : Seen). IfErr c.join-joined.result (λ refused. IsRefused s.table s.steady refused s.view (view_of c.end.new.inner))) c.pass.view_is
-    (crowded-if c.pass.inside.inner.table steady view (view_of c.end.new.inner) e.between service stands c.join-joined.result (rw c.deref_mut.ensures.value at c.join-joined.ensures.spent) (rw c.deref_mut.ensures.value at c.join-joined.ensures.crowded) (rw c.deref_mut.ensures.value at c.join-joined.ensures.not_spent) (rw c.deref_mut.ensures.value at c.join-joined.ensures.memory) last)
+    subst (λ (s : Seen). IfErr c.join-joined.result (λ refused. IsRefused s.home s.steady refused s.view (view_of c.end.new.inner))) c.pass.view_is
+    (crowded-if (home_of c.pass.inside.inner) steady view (view_of c.end.new.inner) e.between service stands c.join-joined.result (rw c.deref_mut.ensures.value at c.join-joined.ensures.spent) (rw c.deref_mut.ensures.value at c.join-joined.ensures.crowded) (rw c.deref_mut.ensures.value at c.join-joined.ensures.not_spent) (rw c.deref_mut.ensures.value at c.join-joined.ensures.memory) last)

@@ -14,4 +14,5 @@ open-requires-clause-stands g c = record {
     events = refl;
   };
   steady = refl;
+  watched = λ due. rw c.in_ok-sleepers.ensures tt;
 }

@@ -6,5 +6,5 @@ use Rattle.shared_service.proofs.shared.SharedService.take.Given as goal
 -- the pass has seen events of others, and recorded nothing
 abbrev pub invariant-loop : goal.invariant-loop
 invariant-loop g l =
-    (goal.iterator-loop g).can_next l.iterator' × (goal.iterator-loop g).is_finite l.iterator' × (l.pass.table ≡ l.initial.pass.table) × (l.pass.steady ≡ l.initial.pass.steady)
+    (goal.iterator-loop g).can_next l.iterator' × (goal.iterator-loop g).is_finite l.iterator' × (l.pass.home ≡ l.initial.pass.home) × (l.pass.steady ≡ l.initial.pass.steady)
     × ((between : List Event) × (l.pass.view ≡ with_others between l.initial.pass.view))
