@@ -172,6 +172,7 @@ fn is_short(service: &mut Service, kind: &str, cells: &str, line: &mut Line) -> 
         "events" => line.number(service.events().len() as u64),
         "fates" => write_fates(service.events().last(), line),
         "taken" => line.add(taken_word(service.take(ConnId(count)))),
+        "outputs" => write_taken(service.take(ConnId(count)), line),
         "go" => {
             service.leave(ConnId(count));
             line.add("left");
@@ -208,9 +209,9 @@ fn talk(
 /// `ask`, `often`, `hold`, `take`, `gone` and `leave` write all that the connections 1, 2 and 3 get: `ask` brings a request and
 /// the key that it asks for, `often` does so this many times, and `hold` keeps the key. `bring` brings a kept key for a
 /// connection, and `key` writes its salt and its iterations. `flood` brings a request this many times, and nobody takes what
-/// waits; `taken` writes what kind of thing one connection takes. `join` lets this many connections join, and `go` lets one
-/// leave. `era`, `events` and `fates` write the service's era, the number of its events, and how each storing of the last one
-/// ended.
+/// waits; `taken` writes what kind of thing one connection takes, and `outputs` all that it takes. `join` lets this many
+/// connections join, and `go` lets one leave. `era`, `events` and `fates` write the service's era, the number of its events, and
+/// how each storing of the last one ended.
 pub fn act(
     service: &mut Service,
     clock: &mut Clock,

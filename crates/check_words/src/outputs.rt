@@ -120,7 +120,7 @@ fn write_out(line: &mut Line, out: &Out) {
     match out {
         Out::Return { to: _, body } => write_body(line, body),
         Out::Error { to: _, name } => line.add(error_word(*name)),
-        Out::Signal(signal) => write_signal(line, signal),
+        Out::Signal(signal) => write_signal(line, signal.signal()),
     }
 }
 

@@ -1,6 +1,6 @@
 // Calls of prompts and of the agent from words.
 
-use crate::secrets::{alias, label, objects};
+use crate::secrets::{alias, label, object, objects};
 use crate::values::{bytes_of, number};
 use kr_base::{Bytes, PromptId};
 use secret_calls::{AliasName, Call};
@@ -25,6 +25,12 @@ fn creating(alloc: Global, words: &str) -> Option<Call> {
 fn unlocking(alloc: Global, words: &str) -> Option<Call> {
     let objects = objects(alloc, words)?;
     Some(Call::Unlock { objects })
+}
+
+// A change of the password of this object.
+fn changing(alloc: Global, path: &str) -> Option<Call> {
+    let collection = object(alloc, path)?;
+    Some(Call::ChangePassword { collection })
 }
 
 fn prompting(words: &str) -> Option<Call> {
@@ -72,6 +78,7 @@ pub fn prompt_call(alloc: Global, what: &str, words: &str) -> Option<Call> {
     match what {
         "create" => creating(alloc, words),
         "unlock" => unlocking(alloc, words),
+        "change" => changing(alloc, words),
         "prompt" => prompting(words),
         "dismiss" => dismissing(words),
         "register" => Some(Call::Register),

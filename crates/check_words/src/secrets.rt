@@ -124,15 +124,11 @@ pub fn session(words: &str) -> Option<Option<SessionId>> {
     Some(Some(SessionId(number(words)?)))
 }
 
-/// The secret `x` for a session; with ` long` after the session, its content type has 1,025 bytes.
+/// The secret `x` for a session. A content type other than `text/plain` comes after the session; `long` is one of 1,025 bytes.
 pub fn secret(alloc: Global, words: &str) -> Option<Secret> {
-    let given = words.strip_suffix(" long");
-    let kind = if given.is_some() {
-        "1025 bytes"
-    } else {
-        "text/plain"
-    };
-    let session = session(given.unwrap_or(words))?;
+    let (given, kind) = words.split_once(' ').unwrap_or((words, "text/plain"));
+    let kind = if kind == "long" { "1025 bytes" } else { kind };
+    let session = session(given)?;
     let content = label(alloc, kind)?;
     let value = Bytes::from_slice(alloc, b"x").ok()?;
     Some(Secret {
