@@ -1,5 +1,9 @@
-mod AnswerLemmas
+pub mod AnswerLemmas
+mod BesideLemmas
 mod CallLemmas
+pub mod DeliveryLemmas
+mod FitLemmas
+mod GiveLemmas
 mod HandshakeLemmas
 mod KeyLemmas
 mod LineLemmas
@@ -16,6 +20,5 @@ mod SingleLemmas
 mod SizeLemmas
 mod StreamLemmas
 mod TakenLemmas
-mod TogetherLemmas
 pub mod WholeLemmas
 mod WriterLemmas

@@ -17,6 +17,7 @@ use Rattle.dbus_framing.proofs.Cuts.{cut_none, cut_then, stream_then}
 use Rattle.connection_worker.specs.declared.ending.End.{End}
 use Rattle.connection_worker.specs.declared.ending.End.TheVariants as end
 use Rattle.connection_worker.specs.Arrivals.{calls_in, AreRequests, FirstRequests}
+use Rattle.connection_worker.specs.Fitting.{FitTogether, HasFit}
 use Rattle.connection_worker.specs.Stopping.{StopsAtWrite, StopsFor}
 use Rattle.connection_worker.specs.Streams.{Output, Gave, GaveFront}
 use Rattle.service_desk.specs.service_events.specs.Single.{AllFinished, AreFinished, TimedRequest, requests_of, taking, turns}
@@ -24,6 +25,8 @@ use Rattle.connection_worker.specs.Written.{given_by, spelled_behind, written_af
 use Rattle.service_desk.proofs.RecordLemmas.{own-state}
 use Rattle.connection_worker.specs.Serving.{World, place_of, IsOwed, Recorded, EndsEarly}
 use Rattle.connection_worker.specs.Answering.{IsOne, Answered, Broke, AnswersCall, AnswersMessage, ServedPrefix, AnswersEarly, AnswersAll}
+use Rattle.connection_worker.proofs.AnswerLemmas.{due-idle}
+use Rattle.connection_worker.proofs.FitLemmas.{fit-all, fit-behind, fit-first}
 use Rattle.connection_worker.proofs.HandshakeLemmas.{rose-later}
 use Rattle.connection_worker.proofs.RecordLemmas.{all-finished, finished-all, finished-more, recorded-none, recorded-more, turns-append, given_by-append}
 use Rattle.connection_worker.proofs.SendingLemmas.{spelled_behind-append}
@@ -43,7 +46,7 @@ given-more old mid asked more so =
     ∙ ap (λ c. given_by conn old.told.state first ++ given_by c mid.told.state (turns c mid.told.state more)) (sym so.calls.same.conn)
 
 -- requests of the same connection, in the state that others led to, have their keys as after those
-here-by : (P : ConnId → State → Type 0) (old mid : World) (asked : List TimedRequest) → Recorded old mid asked [] [] → P mid.told.conn mid.told.state
+pub here-by : (P : ConnId → State → Type 0) (old mid : World) (asked : List TimedRequest) → Recorded old mid asked [] [] → P mid.told.conn mid.told.state
     → P old.told.conn (replay old.told.state (turns old.told.conn old.told.state asked))
 here-by P old mid asked so is =
     subst (λ s. P old.told.conn s) (own-state (place_of old) (place_of mid) (turns old.told.conn old.told.state asked) so.calls) (subst (λ c. P c mid.told.state) so.calls.same.conn is)
@@ -61,6 +64,7 @@ answered-none w serials o idle = record {
   recorded = recorded-none w;
   finished = tt;
   idle = idle;
+  fit = tt;
   as_open = refl;
   wrote = λ taken are. (Gave-none o, omega (arith, are));
 }
@@ -75,6 +79,7 @@ answered-more old mid new serials next behind from o to asked more p q =
       recorded = recorded-more old mid new asked more [] [] p.recorded q.recorded;
       finished = finished-all old.told.conn old.told.state asked more p.finished (all-here old mid asked more p.recorded q.finished);
       idle = q.idle;
+      fit = fit-all old.told.conn old.told.state asked more p.fit (here-by (λ conn state. FitTogether conn state more) old mid asked p.recorded q.fit);
       as_open = q.as_open ∙ p.as_open;
       wrote = λ taken are.
           let first = p.wrote taken are in
@@ -89,6 +94,7 @@ pub ends-behind : (why : End) (count : ℕ) (from o to : Output) (x y : List ℕ
 ends-behind end.EventsSpent count from o to x y gave ends = (ends.0, Gave-trans from o to x y gave ends.1)
 ends-behind end.WriteFault count from o to x y gave ends = (rose-later from.faults o.faults to.faults (Gave-later from o x gave) ends.0, GaveFront-behind from o to x y gave ends.1)
 ends-behind end.Memory count from o to x y gave ends = GaveFront-behind from o to x y gave ends
+ends-behind end.Overrun count from o to x y gave ends = Gave-trans from o to x y gave ends
 ends-behind _ count from o to x y gave ends = absurd ends
 
 -- events that stop at a write do so after others, of which all was written
@@ -157,6 +163,7 @@ broke-more old mid new serials next from o to asked more why p q =
           let e : (asked ++ more) ++ q.refused ≡ asked ++ (more ++ q.refused) = append_assoc asked more q.refused in
           rw e (finished-more old.told.conn old.told.state asked (more ++ q.refused) p.finished (are-here old mid asked (more ++ q.refused) p.recorded q.finished));
       idle = q.idle;
+      fit = fit-behind why old.told.conn old.told.state asked more p.fit (here-by (λ conn state. HasFit why conn state more) old mid asked p.recorded q.fit);
       wrote = λ taken are.
           let first = p.wrote taken are in
           rw (e, spelled_behind-append taken one two)
@@ -174,7 +181,8 @@ broke-memory old new serials behind from to asked p = record {
   few = omega arith;
   recorded = p.recorded;
   finished = let e : asked ++ [] ≡ asked = append-nil asked in rw e (all-finished old.told.conn old.told.state asked p.finished);
-  idle = p.idle;
+  idle = due-idle new.told false p.idle;
+  fit = fit-first old.told.conn old.told.state asked p.fit;
   wrote = λ taken are. GaveFront-whole from to (written_after old.told.conn taken old.told.state (turns old.told.conn old.told.state asked)) (p.wrote taken are).0;
   stops = λ taken are. inl (p.wrote taken are).0;
 }
@@ -296,6 +304,7 @@ pub early : (has remaining : Framing) (old new : World) (serials behind : ℕ) (
 early has remaining old new serials behind from to end.EventsSpent so = so
 early has remaining old new serials behind from to end.WriteFault so = so
 early has remaining old new serials behind from to end.Memory so = so
+early has remaining old new serials behind from to end.Overrun so = so
 early has remaining old new serials behind from to (end.Violation cause) so = absurd so.1.early
 early has remaining old new serials behind from to _ so = so
 

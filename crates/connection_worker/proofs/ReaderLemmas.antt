@@ -1,12 +1,11 @@
 -- A reader hands requests in, one after the other.
-use Rattle.std.proofs.Common.{◌≡◌, ℕ, ◌==◌, ◌⊎◌, Bool, true, false, inl, inr, List, [], ◌∷◌, ◌++◌, length, map, Option, Some, None, Result, Ok, Err, refl, sym, ◌∙◌, ap, arith, subst, append_assoc, append-nil}
+use Rattle.std.proofs.Common.{◌≡◌, ℕ, ◌==◌, ◌⊎◌, Bool, true, false, inl, inr, List, [], ◌∷◌, ◌++◌, map, Option, Some, None, Result, Ok, Err, refl, sym, ◌∙◌, ap, arith, subst, append_assoc, append-nil}
 use Rattle.std.proofs.lemmas.Grind.{flat_map-append}
 use Rattle.std.proofs.lemmas.List.{map-append}
 use Rattle.std.proofs.lemmas.List.Elements.{filter-append}
 use Rattle.std.specs.List.{AllByRecursion}
 use Rattle.kr_base.specs.declared.ids.ConnId.{ConnId}
 use Rattle.kr_outside.specs.Clock.{GivesFirst}
-use Rattle.dbus_framing.specs.declared.violation.Violation.{Violation}
 use Rattle.dbus_framing.specs.declared.violation.Violation.TheVariants as violation
 use Rattle.dbus_framing.specs.Framers.{Framing}
 use Rattle.dbus_framing.specs.Messages.{Parts}
@@ -31,21 +30,20 @@ use Rattle.service_desk.proofs.RecordLemmas.{records-none, records-more}
 use Rattle.connection_worker.specs.declared.ending.End.{End}
 use Rattle.connection_worker.specs.declared.ending.End.TheVariants as end
 use Rattle.connection_worker.specs.Answering.{IsOne}
-use Rattle.connection_worker.specs.Arrivals.{calls_in, AreRequests, AllRequests, FirstRequests}
-use Rattle.connection_worker.specs.Causes.{IsViolated}
+use Rattle.connection_worker.specs.Arrivals.{calls_in, AllRequests, FirstRequests}
 use Rattle.connection_worker.specs.Handshakes.{most_bytes}
 use Rattle.connection_worker.specs.Reading.{Handled, all_asked, own_events, all_events, HasKey, AreKeyed, HandedIn, RefusedFor, ReadFor, HasLeft, ReaderEnds, end_for, StopsAt, IsOnly, HandsIn, HandsInMessage, HandedSoFar, HandsInAll, ReadSoFar, ReadsOn}
 use Rattle.connection_worker.specs.Salts.{words_at}
 use Rattle.connection_worker.specs.Serving.{World, place_of, behind_salt}
 use Rattle.connection_worker.specs.ServingOn.{FeedsMore}
-use Rattle.connection_worker.specs.Sides.{own_in, told_after}
-use Rattle.connection_worker.specs.Streams.{Input, Took, IsStill}
+use Rattle.connection_worker.specs.Sides.{told_after}
+use Rattle.connection_worker.specs.Streams.{Input, IsStill}
 use Rattle.connection_worker.proofs.HandshakeLemmas.{rose-later}
 use Rattle.connection_worker.proofs.MessageLemmas.{all-stream, are-append}
 use Rattle.connection_worker.proofs.RecordLemmas.{GivesMoments-append, GivesSalts-append}
 use Rattle.connection_worker.proofs.ServeLemmas.{shown, stays}
 use Rattle.connection_worker.proofs.ServingLemmas.{is-derivation, key_in}
-use Rattle.connection_worker.proofs.SideLemmas.{Saw, saw-looks, saw-extends, saw-more, own_in-append, refusal-seen}
+use Rattle.connection_worker.proofs.SideLemmas.{saw-looks, saw-extends, saw-more, own_in-append, refusal-seen}
 use Rattle.connection_worker.proofs.StreamLemmas.{Took-none, Took-trans}
 
 -- ---- requests that were handed in one after the other

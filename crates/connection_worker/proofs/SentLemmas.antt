@@ -13,6 +13,7 @@ use Rattle.service_desk.specs.secret_calls.specs.declared.out.Body.{Body}
 use Rattle.service_desk.specs.secret_calls.specs.declared.out.ErrorName.{ErrorName}
 use Rattle.service_desk.specs.secret_calls.specs.declared.out.Out.{Out}
 use Rattle.service_desk.specs.secret_calls.specs.declared.serial.Serial.{Serial}
+use Rattle.service_desk.specs.secret_calls.specs.declared.signal.Signal.{Signal}
 use Rattle.service_desk.specs.secret_calls.specs.declared.work.Work.{Work}
 use Rattle.service_desk.specs.service_tables.specs.Connections.{sent_to}
 use Rattle.service_desk.specs.service_tables.specs.Questions.{CollectionQuestions}
@@ -21,14 +22,16 @@ use Rattle.service_desk.specs.service_tables.specs.Storing.{Brought}
 use Rattle.service_desk.specs.service_tables.specs.declared.fate.Fate.{Fate}
 use Rattle.service_desk.specs.service_tables.specs.Sent.{One, Sent, is_for}
 use Rattle.service_desk.specs.service_tables.proofs.EachLemmas.{each-append}
+use Rattle.service_desk.specs.service_prompts.specs.Announcing.{announced, closing_signals}
 use Rattle.service_desk.specs.service_prompts.specs.Prompting.{ask_sent, ask_signal, ask_signal_in, completed_sent, completed_signal}
 use Rattle.service_desk.specs.service_events.specs.declared.event.Derivation.{Derivation}
 use Rattle.service_desk.specs.service_events.specs.declared.event.Recorded.{Recorded}
+use Rattle.service_desk.specs.service_events.specs.Announced.{demand_signals, reading_signals, unlock_signals}
 use Rattle.service_desk.specs.service_events.specs.Derivation.{derived}
 use Rattle.service_desk.specs.service_events.specs.PromptCalls.{asks_for, completes, go_on_sent, is_over, passed_kind}
 use Rattle.service_desk.specs.service_events.specs.Single.{TimedKey}
 use Rattle.service_desk.specs.service_events.specs.Plan.{Change, Open_session, Close_session, Lock_collection, Begin_prompt, Ask_prompt, Derive_key, Count_wrong, Clear_wrong, Go_on, End_prompt, Become_agent, Leave_agent, Plan}
-use Rattle.service_desk.specs.service_events.specs.Run.{asked, performed, run, sent_all, sent_asked, sent_by, sent_opened, sent_settled}
+use Rattle.service_desk.specs.service_events.specs.Run.{asked, key_with, performed, run, sent_all, sent_asked, sent_by, sent_opened, sent_settled}
 use Rattle.service_desk.specs.service_events.specs.Step.{brought_by, brought_derived, finished, message_of, put_out, served, terms_of}
 use Rattle.service_desk.specs.service_events.proofs.RunLemmas.{keeps-run, plan_for}
 use Rattle.connection_worker.specs.Replies.{is_reply, key_outputs}
@@ -37,7 +40,7 @@ use Rattle.service_desk.specs.service_tables.specs.Opened.{contents_of}
 use Rattle.service_desk.specs.service_tables.specs.Reading.{asked_collections}
 
 -- each of them is a signal
-abbrev AreSignals : List Sent → Type 0
+abbrev pub AreSignals : List Sent → Type 0
 AreSignals sent = AllByRecursion (λ (one : Sent). is_reply one.out ≡ false) sent
 
 -- ---- what is sent
@@ -61,18 +64,22 @@ completed-signals prompt dismissed created prompts =
     let pass : (o : Option PromptRow) → AreSignals (cons_option (option_map (λ (row : PromptRow). completed_signal dismissed created (ended_row row)) o) []) = elim [ None ↦ tt | Some row ↦ (refl, tt) ] in
     pass (row_at prompt prompts)
 
+announced-signals : (signals : List Signal) → AreSignals (announced signals)
+announced-signals [] = tt
+announced-signals (one ∷ more) = (refl, announced-signals more)
+
 go_on-signals : (asks : CollectionQuestions) (collections : Rows) (agent : Option ConnId) (row : Option PromptRow) → AreSignals (go_on_sent asks collections agent row)
 go_on-signals asks collections agent None = tt
 go_on-signals asks collections agent (Some row) =
     let left = passed_kind asks row.kind in
     let asked : (o : Option ConnId) → AreSignals (asks_for collections row left o) = elim [ None ↦ tt | Some agent ↦ (refl, tt) ] in
     let pass : (b : Bool) → AreSignals (cond b (completes row left) (asks_for collections row left agent)) = elim [ true ↦ (refl, tt) | false ↦ asked agent ] in
-    pass (is_over left)
+    pass (is_over asks left)
 
 change-signals : (caller : ConnId) (change : Change) (state : State) → AreSignals (sent_by caller change state)
 change-signals caller Open_session state = tt
 change-signals caller (Close_session session) state = tt
-change-signals caller (Lock_collection stem) state = tt
+change-signals caller (Lock_collection stem) state = announced-signals (closing_signals stem state.collections)
 change-signals caller (Begin_prompt kind) state = tt
 change-signals caller (Ask_prompt prompt) state = ask-signals state.collections (asked_again prompt state.prompts) prompt
 change-signals caller (Derive_key prompt round) state = tt
@@ -96,15 +103,15 @@ run-signals caller brought =
     (record {
       ends = λ answer changes state small. all-signals caller changes state;
       fails = λ name state. tt;
-      asks = λ demand ended state ran are. both (sent_asked brought demand ended state) ran.sends tt are;
-      settles = λ reading ended state ran are. both (sent_settled reading ended state) ran.sends tt are;
-      opens = λ stem terms state ran are. both (sent_opened brought stem terms state) ran.sends tt are;
+      asks = λ demand ended state ran are. both (sent_asked brought demand ended state) ran.sends (announced-signals (demand_signals brought demand ended state.collections)) are;
+      settles = λ reading ended state ran are. both (sent_settled reading ended state) ran.sends (announced-signals (reading_signals reading ended state.collections)) are;
+      opens = λ stem terms state ran are. both (sent_opened brought stem terms state) ran.sends (announced-signals (unlock_signals (key_with brought terms) stem state.collections)) are;
     })
 
 -- ---- the replies among the outputs
 
 -- there is none among signals
-no-reply : (conn : ConnId) (sent : List Sent) → AreSignals sent → filter is_reply (sent_to conn sent) ≡ []
+pub no-reply : (conn : ConnId) (sent : List Sent) → AreSignals sent → filter is_reply (sent_to conn sent) ≡ []
 no-reply conn [] are = refl
 no-reply conn (one ∷ more) are =
     let rest = no-reply conn more are.1 in
@@ -122,7 +129,7 @@ key-replies conn state (Some work) (Some key) =
     (run-signals conn (brought_derived came) (derived came.prompt came.round (terms_of came) (asked conn (brought_derived came) state)) came.fates state)
 
 -- the message that answers a call is a reply
-message-replies : (serial : Serial) (answer : Result Body ErrorName) → is_reply (message_of serial answer) ≡ true
+pub message-replies : (serial : Serial) (answer : Result Body ErrorName) → is_reply (message_of serial answer) ≡ true
 message-replies serial (Ok body) = refl
 message-replies serial (Err name) = refl
 
@@ -135,10 +142,13 @@ first-reply true conn reply sends is are =
     ∙ ap (λ l. reply ∷ l) rest
 first-reply false conn reply sends is are = no-reply conn sends are
 
+-- what a request sends is signals
+pub served-signals : (came : Recorded) (state : State) → AreSignals (served came state).sends
+served-signals came state = run-signals came.arrival.conn (brought_by came.arrival) (plan_for came state) came.fates state
+
 pub ran-replies : (came : Recorded) (state : State)
     → filter is_reply (sent_to came.arrival.conn (put_out came.arrival.conn came.arrival.request (served came state)))
     ≡ cond came.arrival.request.wants_reply (message_of came.arrival.request.serial (served came state).answer ∷ []) []
 ran-replies came state =
     let ran = served came state in
-    first-reply came.arrival.request.wants_reply came.arrival.conn (message_of came.arrival.request.serial ran.answer) ran.sends (message-replies came.arrival.request.serial ran.answer)
-    (run-signals came.arrival.conn (brought_by came.arrival) (plan_for came state) came.fates state)
+    first-reply came.arrival.request.wants_reply came.arrival.conn (message_of came.arrival.request.serial ran.answer) ran.sends (message-replies came.arrival.request.serial ran.answer) (served-signals came state)

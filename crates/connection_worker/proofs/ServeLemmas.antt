@@ -1,5 +1,5 @@
 -- Calls are served, and more bytes are read, turn after turn.
-use Rattle.std.proofs.Common.{◌≡◌, ℕ, inl, inr, List, [], ◌++◌, Ok, Err, refl, sym, ◌∙◌, arith, subst, append_assoc, append-nil, ◌==◌}
+use Rattle.std.proofs.Common.{◌≡◌, ℕ, inl, inr, false, List, [], ◌++◌, Ok, Err, refl, sym, ◌∙◌, arith, subst, append_assoc, append-nil, ◌==◌}
 use Rattle.std.proofs.lemmas.List.{map-append}
 use Rattle.std.proofs.lemmas.List.Elements.{filter-append}
 use Rattle.dbus_framing.specs.declared.violation.Violation.{Violation}
@@ -23,6 +23,8 @@ use Rattle.connection_worker.specs.Answering.{IsEarly, MayRefuse, ServedPrefix, 
 use Rattle.connection_worker.specs.ServingOn.{FeedsMore, ServesOn, ServedSoFar, IsThrough}
 use Rattle.connection_worker.specs.Causes.{AllServed, FirstServed, IsViolated, HasCause, HasFinished, HasWritten, HasRefused}
 use Rattle.connection_worker.specs.Handshakes.{most_bytes}
+use Rattle.connection_worker.proofs.AnswerLemmas.{due-idle}
+use Rattle.connection_worker.proofs.FitLemmas.{fit-first}
 use Rattle.connection_worker.proofs.HandshakeLemmas.{rose-later}
 use Rattle.connection_worker.proofs.MessageLemmas.{answered-more, broke-more, are-append, first-so, first-fewer, going-none}
 use Rattle.connection_worker.proofs.RecordLemmas.{all-finished}
@@ -147,6 +149,7 @@ early-ends : (why : End) (has : Framing) (bytes : List ℕ) (asked : List TimedR
     → FirstRequests has.most bytes (requests_of asked) → EndsEarly why count sink after text → HasCause why (silent (opened bytes)) asked count from to sink after × HasWritten why sink after text
 early-ends end.EventsSpent has bytes asked text count from to sink after most same first ends = ((ends.0, first-served has bytes asked most first, same), ends.1)
 early-ends end.WriteFault has bytes asked text count from to sink after most same first ends = ((ends.0, first-served has bytes asked most first, same), ends.1)
+early-ends end.Overrun has bytes asked text count from to sink after most same first ends = ((first-served has bytes asked most first, same), ends)
 early-ends end.Memory has bytes asked text count from to sink after most same first ends = ((first-served has bytes asked most first, same), ends)
 early-ends _ has bytes asked text count from to sink after most same first ends = absurd ends
 
@@ -155,6 +158,7 @@ early-refused : (why : End) (has : Framing) (bytes : List ℕ) (asked refused : 
     → FirstRequests has.most bytes (requests_of (asked ++ refused)) → HasRefused why (silent (opened bytes)) asked refused late
 early-refused end.EventsSpent has bytes asked refused late most early few first = (few, first-served has bytes (asked ++ refused) most first)
 early-refused end.WriteFault has bytes asked refused late most early few first = few
+early-refused end.Overrun has bytes asked refused late most early few first = few
 early-refused end.Memory has bytes asked refused late most early few first = (few, first-served has bytes (asked ++ refused) most first)
 early-refused _ has bytes asked refused late most early few first = absurd early
 
@@ -162,6 +166,7 @@ early-refused _ has bytes asked refused late most early few first = absurd early
 early-finished : (why : End) (conn : ConnId) (state : State) (asked refused : List TimedRequest) → IsEarly why → AreFinished conn state (asked ++ refused) → HasFinished why conn state asked refused
 early-finished end.EventsSpent conn state asked refused early are = are
 early-finished end.WriteFault conn state asked refused early are = are
+early-finished end.Overrun conn state asked refused early are = are
 early-finished end.Memory conn state asked refused early are = are
 early-finished _ conn state asked refused early are = absurd early
 
@@ -190,6 +195,7 @@ broke-end has from now left old mid new next sink o to why most so early =
       recorded = broke.recorded;
       finished = early-finished why old.told.conn old.told.state all refused broke.early broke.finished;
       idle = broke.idle;
+      fit = broke.fit;
       few = early-refused why has bytes all refused early.1.late most broke.early early.1.few next_so;
       cause = ends.0;
       wrote = ends.1;
@@ -239,7 +245,8 @@ answers-end has from now left more old mid new next behind sink o to (end.Violat
       late = [];
       recorded = going.answered.recorded;
       finished = going.answered.finished;
-      idle = going.answered.idle;
+      idle = due-idle new.told false going.answered.idle;
+      fit = going.answered.fit;
       few = (refl, refl);
       cause = ((more.rest, served, shown cause now more.rest (subst (λ m. Breaks m more.rest cause) (so.most ∙ most) answers.2)), so.still);
       wrote = (going.answered.wrote 0 refl).0;
@@ -247,6 +254,7 @@ answers-end has from now left more old mid new next behind sink o to (end.Violat
     }
 answers-end has from now left more old mid new next behind sink o to end.EventsSpent most so answers = broke-end has from now left old mid new next sink o to end.EventsSpent most so answers
 answers-end has from now left more old mid new next behind sink o to end.WriteFault most so answers = broke-end has from now left old mid new next sink o to end.WriteFault most so answers
+answers-end has from now left more old mid new next behind sink o to end.Overrun most so answers = broke-end has from now left old mid new next sink o to end.Overrun most so answers
 answers-end has from now left more old mid new next behind sink o to end.Memory most so answers = broke-end has from now left old mid new next sink o to end.Memory most so answers
 answers-end has from now left more old mid new next behind sink o to _ most so answers = absurd answers.1.early
 
@@ -264,7 +272,8 @@ feeds-end has from now later left fed old new behind sink o end.ReadFault most s
   late = [];
   recorded = so.so_far.going.answered.recorded;
   finished = so.so_far.going.answered.finished;
-  idle = so.so_far.going.answered.idle;
+  idle = due-idle new.told false so.so_far.going.answered.idle;
+  fit = so.so_far.going.answered.fit;
   few = (refl, refl);
   cause = (rose-later from.faults now.faults later.faults so.so_far.took.later feeds.1, inr (left.rest, all-served has from now left old new behind sink o most so, quiet));
   wrote = gave-so has from now left old new behind sink o so.so_far;
@@ -278,7 +287,8 @@ feeds-end has from now later left fed old new behind sink o end.Done most so qui
   late = [];
   recorded = so.so_far.going.answered.recorded;
   finished = so.so_far.going.answered.finished;
-  idle = so.so_far.going.answered.idle;
+  idle = due-idle new.told false so.so_far.going.answered.idle;
+  fit = so.so_far.going.answered.fit;
   few = (refl, refl);
   cause = (rw (sym feeds.2) (all-served has from now left old new behind sink o most so), feeds.1, feeds.3 ∙ so.so_far.still);
   wrote = gave-so has from now left old new behind sink o so.so_far;
@@ -292,7 +302,8 @@ feeds-end has from now later left fed old new behind sink o (end.Violation viola
   late = [];
   recorded = so.so_far.going.answered.recorded;
   finished = so.so_far.going.answered.finished;
-  idle = so.so_far.going.answered.idle;
+  idle = due-idle new.told false so.so_far.going.answered.idle;
+  fit = so.so_far.going.answered.fit;
   few = (refl, refl);
   cause = ((left.rest, all-served has from now left old new behind sink o most so, (feeds.2, feeds.1, quiet)), feeds.3 ∙ so.so_far.still);
   wrote = gave-so has from now left old new behind sink o so.so_far;
@@ -318,7 +329,8 @@ feeds-end has from now later left fed old new behind sink o end.Memory most so q
       late = [];
       recorded = so.so_far.going.answered.recorded;
       finished = memory-finished old.told.conn old.told.state asked so.so_far.going.answered.finished;
-      idle = so.so_far.going.answered.idle;
+      idle = due-idle new.told false so.so_far.going.answered.idle;
+      fit = fit-first old.told.conn old.told.state asked so.so_far.going.answered.fit;
       few = none-refused (silent (opened (has.rest ++ (so.so_far.read ++ feeds.0)))) asked served;
       cause = (served, feeds.2 ∙ so.so_far.still);
       wrote = GaveFront-whole sink o (written_after old.told.conn 0 old.told.state (turns old.told.conn old.told.state asked)) (gave-so has from now left old new behind sink o so.so_far);
@@ -339,7 +351,8 @@ never-served has from w sink most idle =
       late = [];
       recorded = so.going.answered.recorded;
       finished = memory-finished w.told.conn w.told.state so.going.asked so.going.answered.finished;
-      idle = so.going.answered.idle;
+      idle = due-idle w.told false so.going.answered.idle;
+      fit = fit-first w.told.conn w.told.state so.going.asked so.going.answered.fit;
       few = none-refused (silent (opened (has.rest ++ so.read))) so.going.asked served;
       cause = (served, so.still);
       wrote = GaveFront-whole sink sink (written_after w.told.conn 0 w.told.state (turns w.told.conn w.told.state so.going.asked)) (gave-so has from from has w w 0 sink sink so);

@@ -1,5 +1,5 @@
 -- What the calls of a desk that is alone change.
-use Rattle.std.proofs.Common.{◌≡◌, ℕ, ◌≤◌, IsTrue, true, false, List, [], ◌∷◌, length, Option, Some, refl, ap, ◌∙◌, subst, arith, rules, nat_lt, ◌==◌}
+use Rattle.std.proofs.Common.{◌≡◌, ℕ, ◌≤◌, IsTrue, Bool, true, false, List, length, Option, Some, refl, ap, ◌∙◌, subst, arith, rules, nat_lt, ◌==◌}
 use Rattle.kr_outside.specs.Clock.{GivesFirst}
 use Rattle.service_desk.specs.secret_calls.specs.declared.out.Out.{Out}
 use Rattle.service_desk.specs.secret_calls.specs.declared.work.Work.{Work}
@@ -17,18 +17,19 @@ use Rattle.service_desk.specs.Calls.{Finishes}
 use Rattle.service_desk.proofs.RecordLemmas.{alone-looks, alone-extends}
 use Rattle.connection_worker.specs.Salts.{Salting, words_at}
 use Rattle.service_desk.specs.service_events.specs.Single.{TimedKey, TimedRequest, arrival, derivation, work_for, work_in}
-use Rattle.connection_worker.specs.Serving.{IsOwed, behind_salt, HasArrived, HasAsked, HasBrought, HasLost}
+use Rattle.connection_worker.specs.Serving.{IsDue, behind_salt, HasArrived, HasAsked, HasBrought, HasLost}
 
 -- a number is itself
 pub same : (n : ℕ) → (n == n) ≡ true
 same n = search rules
 
 -- the row of the only connection
-pub only-desk : (told : Told) (outs : List Out) → IsOwed told outs → desk_of told.conn told.state.connections.rows ≡ Some (record { waits = nat_lt 0 (length outs); overrun = false; leaving = false })
-only-desk told outs is = rw is.only (rw (same told.conn.0) refl)
+pub only-desk : (told : Told) (outs : List Out) (lost : Bool) → IsDue told outs lost
+    → desk_of told.conn told.state.connections.rows ≡ Some (record { waits = nat_lt 0 (length outs); overrun = lost; leaving = false })
+only-desk told outs lost is = rw is.only (rw (same told.conn.0) refl)
 
-pub only-there : (told : Told) (outs : List Out) → IsOwed told outs → has told.conn told.state.connections.rows ≡ true
-only-there told outs is = rw is.only (rw (same told.conn.0) refl)
+pub only-there : (told : Told) (outs : List Out) (lost : Bool) → IsDue told outs lost → has told.conn told.state.connections.rows ≡ true
+only-there told outs lost is = rw is.only (rw (same told.conn.0) refl)
 
 -- ---- a request
 

@@ -1,5 +1,5 @@
 -- What several calls of a desk recorded of its own, among the events of others.
-use Rattle.std.proofs.Common.{◌≡◌, ◌<◌, List, [], ◌∷◌, ◌++◌, refl, sym, ◌∙◌, ap, subst}
+use Rattle.std.proofs.Common.{◌≡◌, ◌<◌, List, [], ◌∷◌, ◌++◌, refl, ◌∙◌, ap, subst}
 use Rattle.service_desk.specs.secret_calls.specs.declared.taken.Refused.{Refused}
 use Rattle.service_desk.specs.secret_calls.specs.declared.taken.Refused.TheVariants as refusal
 use Rattle.service_desk.specs.service_tables.specs.Limits.{most_events, IsSpent}

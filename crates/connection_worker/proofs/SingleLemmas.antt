@@ -23,9 +23,11 @@ use Rattle.connection_worker.specs.Streams.{Input, Output, IsStill, Gave}
 use Rattle.kr_base.specs.declared.ids.ConnId.{ConnId}
 use Rattle.service_desk.specs.service_events.specs.Single.{AreFinished, TimedRequest, turns, single}
 use Rattle.connection_worker.specs.Written.{given_by, spelled_behind, written_after, taken_by, written}
-use Rattle.connection_worker.specs.Serving.{World, place_of, HasJoined, IsOwed, Recorded}
+use Rattle.connection_worker.specs.Serving.{World, place_of, HasJoined, IsIdle, IsOwed, has_lost, Recorded}
 use Rattle.connection_worker.specs.ServingOn.{ServesOn}
 use Rattle.connection_worker.specs.OneThread.{IsServed}
+use Rattle.connection_worker.specs.Fitting.{HasFit}
+use Rattle.connection_worker.proofs.AnswerLemmas.{due-idle}
 use Rattle.connection_worker.proofs.HandshakeLemmas.{rose-later}
 use Rattle.connection_worker.proofs.RecordLemmas.{all-finished, finished-front, recorded-none, given_by-append, turns-faultless}
 use Rattle.connection_worker.proofs.ServingLemmas.{same, only-there}
@@ -34,17 +36,20 @@ use Rattle.connection_worker.proofs.StreamLemmas.{Took-trans, Gave-later, Gave-t
 -- ---- the desk's last call
 
 -- a connection that is there is recorded as gone
-pub goes-alone : (old new : Place) → IsTrue old.told.is_alone → IsOwed old.told [] → Goes old new → Records old new (of_own old.told.state (event.Gone old.told.conn ∷ []))
+pub goes-alone : (old new : Place) → IsTrue old.told.is_alone → IsIdle old.told → Goes old new → Records old new (of_own old.told.state (event.Gone old.told.conn ∷ []))
 goes-alone old new alone idle (inl gone) = alone-extends old new (event.Gone old.told.conn) output.Gone alone gone
 goes-alone old new alone idle (inr (looks, missing)) =
     let state : new.told.state ≡ old.told.state = (alone-looks old new alone looks).state in
     let there : has new.told.conn new.told.state.connections.rows ≡ true =
-    ap (λ c. has c new.told.state.connections.rows) looks.same.conn ∙ ap (λ (s : State). has old.told.conn s.connections.rows) state ∙ only-there old.told [] idle in
+    ap (λ c. has c new.told.state.connections.rows) looks.same.conn ∙ ap (λ (s : State). has old.told.conn s.connections.rows) state ∙ only-there old.told [] (has_lost old.told) idle in
     let e : true ≡ false = sym there ∙ missing in cc
 
 -- nothing waits for a connection that has just joined, and it has taken nothing
-pub joined-idle : (told : Told) → HasJoined told → IsSound told.state → IsOwed told []
-joined-idle told joined sound = record { sound = sound; taken = 0; only = joined }
+pub joined-owed : (told : Told) → HasJoined told → IsSound told.state → IsOwed told []
+joined-owed told joined sound = record { sound = sound; taken = 0; only = joined }
+
+pub joined-idle : (told : Told) → HasJoined told → IsSound told.state → IsIdle told
+joined-idle told joined sound = due-idle told false (joined-owed told joined sound)
 
 taken-none : (told : Told) → HasJoined told → taken_by told.conn told.state.connections.rows ≡ 0
 taken-none told joined = rw joined (rw (same told.conn.0) refl)
@@ -106,6 +111,7 @@ cause-after end.ReadFault run bytes asked count from mid to sink o out is later 
 )
 cause-after end.WriteFault run bytes asked count from mid to sink o out is later same put cause =
     (rose-later sink.faults o.faults out.faults put cause.0, first-run run bytes asked is cause.1, cause.2 ∙ same)
+cause-after end.Overrun run bytes asked count from mid to sink o out is later same put cause = (first-run run bytes asked is cause.0, cause.1 ∙ same)
 cause-after end.EventsSpent run bytes asked count from mid to sink o out is later same put cause = (cause.0, first-run run bytes asked is cause.1, cause.2 ∙ same)
 cause-after end.Memory run bytes asked count from mid to sink o out is later same put cause = (first-run run bytes asked is cause.0, cause.1 ∙ same)
 cause-after _ run bytes asked count from mid to sink o out is later same put cause = absurd cause
@@ -120,6 +126,7 @@ refused-after _ run bytes asked refused late is few = few
 -- no request that was recorded lacks its key, but perhaps the last one
 has-finished : (how : End) (conn : ConnId) (state : State) (asked refused : List TimedRequest) → HasFinished how conn state asked refused → AreFinished conn state asked
 has-finished end.WriteFault conn state asked refused are = finished-front conn state asked refused are
+has-finished end.Overrun conn state asked refused are = finished-front conn state asked refused are
 has-finished end.EventsSpent conn state asked refused are = finished-front conn state asked refused are
 has-finished end.Memory conn state asked refused are = finished-front conn state asked refused are
 has-finished _ conn state asked refused are = all-finished conn state asked are
@@ -127,6 +134,7 @@ has-finished _ conn state asked refused are = all-finished conn state asked are
 -- if there is none, none does
 none-finished : (how : End) (conn : ConnId) (state : State) → HasFinished how conn state [] []
 none-finished end.WriteFault conn state = tt
+none-finished end.Overrun conn state = tt
 none-finished end.EventsSpent conn state = tt
 none-finished end.Memory conn state = tt
 none-finished _ conn state = tt
@@ -140,11 +148,11 @@ written-behind _ sink o out x y gave wrote = Gave-trans sink o out x y gave wrot
 -- why it ended, if the handshake did, and what was written
 shaking-ends : (how : End) (run : shaking.Run) (count : ℕ) (from to : Input) (sink out : Output)
     → EndsFor IsRefusedFor run (record { input = from; output = sink }) (record { input = to; output = out }) (Err how)
-    → HasCause how run [] count from to sink out × HasWritten how sink out (concat run.answers ++ []) × HasRefused how run [] [] []
-shaking-ends (end.AuthRefused why) run count from to sink out ends = ((ends.0, refl, ends.2), rw (append-nil (concat run.answers)) ends.1, (refl, refl))
-shaking-ends end.ReadFault run count from to sink out ends = ((ends.1, inl (ends.0, refl)), rw (append-nil (concat run.answers)) ends.2, (refl, refl))
-shaking-ends end.WriteFault run count from to sink out ends = ((ends.0, inl refl, ends.2), rw (append-nil (concat run.answers)) ends.1, (refl, refl))
-shaking-ends end.Memory run count from to sink out ends = ((inl refl, ends.1), rw (append-nil (concat run.answers)) ends.0, (omega arith, inl refl))
+    → HasCause how run [] count from to sink out × HasWritten how sink out (concat run.answers ++ []) × HasRefused how run [] [] [] × ((conn : ConnId) (state : State) → HasFit how conn state [])
+shaking-ends (end.AuthRefused why) run count from to sink out ends = ((ends.0, refl, ends.2), rw (append-nil (concat run.answers)) ends.1, (refl, refl), λ conn state. tt)
+shaking-ends end.ReadFault run count from to sink out ends = ((ends.1, inl (ends.0, refl)), rw (append-nil (concat run.answers)) ends.2, (refl, refl), λ conn state. tt)
+shaking-ends end.WriteFault run count from to sink out ends = ((ends.0, inl refl, ends.2), rw (append-nil (concat run.answers)) ends.1, (refl, refl), λ conn state. tt)
+shaking-ends end.Memory run count from to sink out ends = ((inl refl, ends.1), rw (append-nil (concat run.answers)) ends.0, (omega arith, inl refl), λ conn state. tt)
 shaking-ends _ run count from to sink out ends = absurd ends
 
 -- ---- the whole
@@ -178,6 +186,7 @@ served-behind uid guid from mid to sink o out old served new framing how shakes 
       wrote =
           rw (whole, single-text old serves.asked joined)
           (written-behind how sink o out (concat run.answers) (written_after old.told.conn 0 old.told.state (turns old.told.conn old.told.state serves.asked)) shakes.ends.3 serves.wrote);
+      fit = serves.fit;
       stopped = rw whole (inr (o, shakes.ends.3, serves.stopped));
     }
 
@@ -201,5 +210,6 @@ served-not uid guid from to sink out old new how shakes gone =
       salts = refl;
       cause = ends.0;
       wrote = ends.1;
+      fit = ends.3 old.told.conn old.told.state;
       stopped = inl refl;
     }

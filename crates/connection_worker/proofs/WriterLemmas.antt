@@ -1,5 +1,5 @@
 -- A writer takes what waits, and writes it, one take after the other.
-use Rattle.std.proofs.Common.{◌≡◌, ℕ, ◌+◌, ◌≤◌, ◌⊎◌, Bool, true, false, inl, inr, List, [], ◌∷◌, ◌++◌, length, map, Result, Ok, Err, refl, sym, ◌∙◌, ap, arith, subst, append_assoc, append-nil, length-append}
+use Rattle.std.proofs.Common.{◌≡◌, ℕ, ◌≤◌, ◌⊎◌, true, false, inl, inr, List, [], ◌∷◌, ◌++◌, length, map, Result, Ok, Err, refl, sym, ◌∙◌, ap, arith, subst, append_assoc, append-nil, length-append}
 use Rattle.std.proofs.lemmas.List.{map-append}
 use Rattle.kr_base.specs.declared.ids.ConnId.{ConnId}
 use Rattle.service_desk.specs.secret_calls.specs.declared.out.Out.{Out}
@@ -14,20 +14,20 @@ use Rattle.service_desk.specs.service_events.specs.Step.{IsMissing}
 use Rattle.service_desk.specs.service_events.proofs.ReplayLemmas.{replay-append}
 use Rattle.service_desk.specs.Calls.{IsToldOf, Takes, Goes}
 use Rattle.service_desk.specs.Places.{Told, Place, Looks, Extends}
-use Rattle.service_desk.specs.Records.{Seen, Own, Records, event_of, events_of, of_others, given}
+use Rattle.service_desk.specs.Records.{Seen, Records, event_of, events_of, of_others, given}
 use Rattle.service_desk.proofs.RecordLemmas.{looks-records, extends-records, records-none, records-more}
 use Rattle.connection_worker.specs.declared.ending.End.{End}
 use Rattle.connection_worker.specs.declared.ending.End.TheVariants as end
 use Rattle.connection_worker.specs.Causes.{HasWritten}
 use Rattle.connection_worker.specs.Sending.{AreBehind, Sends}
 use Rattle.connection_worker.specs.Sides.{own_in, told_after}
-use Rattle.connection_worker.specs.Streams.{Output, Gave, GaveFront}
+use Rattle.connection_worker.specs.Streams.{Output, GaveFront}
 use Rattle.connection_worker.specs.Writing.{take_event, gone_event, WroteFor, GoneFor, WriterEnds, SendsTaken, WritesNext, WrittenSoFar, LastFor, WritesOn, StopsAtTake, HasStopped}
 use Rattle.connection_worker.specs.Written.{spelled_behind}
 use Rattle.connection_worker.proofs.HandshakeLemmas.{rose-later}
 use Rattle.connection_worker.proofs.SendingLemmas.{spelled_behind-append}
 use Rattle.connection_worker.proofs.SideLemmas.{own_in-append, own_in-others, saw-looks, saw-extends}
-use Rattle.connection_worker.proofs.StreamLemmas.{Gave-later, Gave-none, Gave-trans, GaveFront-behind, GaveFront-whole}
+use Rattle.connection_worker.proofs.StreamLemmas.{Gave-later, Gave-none, Gave-trans, GaveFront-behind}
 use Rattle.connection_worker.proofs.TakenLemmas.{given-append}
 
 pub written-none : (w : Place) (o : Output) → WrittenSoFar o o w w 0

@@ -7,8 +7,9 @@ use Rattle.call_wire.specs.CallOf.{CallOf}
 use Rattle.connection_worker.specs.declared.ending.End.{End}
 use Rattle.connection_worker.specs.declared.ending.End.TheVariants as end
 use Rattle.connection_worker.specs.Arrivals.{calls_in, AreRequests, FirstRequests}
+use Rattle.connection_worker.specs.Fitting.{FitTogether, HasFit}
 use Rattle.connection_worker.specs.Sending.{AreBehind}
-use Rattle.connection_worker.specs.Serving.{World, IsOwed, Recorded, EndsEarly}
+use Rattle.connection_worker.specs.Serving.{World, IsIdle, IsOwed, Recorded, EndsEarly}
 use Rattle.service_desk.specs.service_events.specs.Single.{AllFinished, AreFinished, TimedRequest, requests_of, turns}
 use Rattle.connection_worker.specs.Stopping.{StopsFor}
 use Rattle.connection_worker.specs.Streams.{Output, StaysAsOpen, Gave}
@@ -25,6 +26,7 @@ pub record Answered (old new : World) (serials behind : ℕ) (from to : Output) 
   pub recorded : Recorded old new asked [] []
   pub finished : AllFinished old.told.conn old.told.state asked
   pub idle : IsOwed new.told []
+  pub fit : FitTogether old.told.conn old.told.state asked
   pub as_open : StaysAsOpen from to
   pub wrote : (taken : ℕ) → AreBehind taken serials
       → Gave from to (written_after old.told.conn taken old.told.state (turns old.told.conn old.told.state asked))
@@ -34,11 +36,13 @@ pub record Answered (old new : World) (serials behind : ℕ) (from to : Output) 
 abbrev pub IsEarly : End → Type 0
 IsEarly end.EventsSpent = Unit {0}
 IsEarly end.WriteFault = Unit {0}
+IsEarly end.Overrun = Unit {0}
 IsEarly end.Memory = Unit {0}
 IsEarly _ = ⊥
 
 -- at which of these ends a request, or a key of which this moment was taken, was refused: one if the desk refused since no further event can
 -- be counted; one or none if memory ran out, since the serving may lack it too; and none if the sink failed
+-- or an output was lost
 abbrev pub MayRefuse : End → List TimedRequest → List ℕ → Type 0
 MayRefuse end.EventsSpent refused late = length refused + length late ≡ 1
 MayRefuse end.Memory refused late = length refused + length late ≤ 1
@@ -52,7 +56,8 @@ pub record Broke (old new : World) (serials : ℕ) (from to : Output) (asked : L
   pub few : MayRefuse why refused late
   pub recorded : Recorded old new asked refused late
   pub finished : AreFinished old.told.conn old.told.state (asked ++ refused)
-  pub idle : IsOwed new.told []
+  pub idle : IsIdle new.told
+  pub fit : HasFit why old.told.conn old.told.state asked
   pub wrote : (taken : ℕ) → AreBehind taken serials
       → EndsEarly why new.told.count from to (written_after old.told.conn taken old.told.state (turns old.told.conn old.told.state asked))
   pub stops : (taken : ℕ) → AreBehind taken serials

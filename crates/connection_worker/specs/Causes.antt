@@ -1,4 +1,4 @@
--- Why the serving of a connection ended, and what was written by then (docs/PROOFS.md, "Answers and their causes").
+-- Why a connection is no longer served, and what was written by then (docs/PROOFS.md, "Answers and their causes").
 use Rattle.std.specs.Prelude.{◌≡◌, ◌≢◌, ℕ, ◌+◌, ◌≤◌, ◌⊎◌, List, [], ◌++◌, length}
 use Rattle.std.specs.Io.KnownBytes.{IsAtEnd}
 use Rattle.kr_outside.specs.Faults.{Rose}
@@ -51,7 +51,9 @@ HasCause end.WriteFault run asked count from to sink after = Rose sink.faults af
 HasCause end.EventsSpent run asked count from to sink after = IsSpent count × FirstServed run asked × IsStill from to
 -- at any time
 HasCause end.Memory run asked count from to sink after = FirstServed run asked × IsStill from to
--- nobody else ends the only connection of a service, and it loses no output
+-- an output was lost (HasFit in Fitting.antt)
+HasCause end.Overrun run asked count from to sink after = FirstServed run asked × IsStill from to
+-- nobody else ends the only connection of a service
 HasCause _ run asked count from to sink after = ⊥
 
 -- All of the output is written before the end, unless the output failed or memory ran out: then a prefix of it is.
@@ -67,9 +69,11 @@ HasRefused end.EventsSpent run asked refused late = (length refused + length lat
 HasRefused end.Memory run asked refused late = (length refused + length late ≤ 1) × FirstServed run (asked ++ refused)
 HasRefused _ run asked refused late = (refused ≡ []) × (late ≡ [])
 
--- Each request that gave work has its key, unless it is the last one and the sink failed, no further event can be counted or memory ran out.
+-- Each request that gave work has its key, unless it is the last one and the sink failed, an output was lost, no further event can be counted
+-- or memory ran out.
 abbrev pub HasFinished : End → ConnId → State → List TimedRequest → List TimedRequest → Type 0
 HasFinished end.WriteFault conn state asked refused = AreFinished conn state (asked ++ refused)
+HasFinished end.Overrun conn state asked refused = AreFinished conn state (asked ++ refused)
 HasFinished end.EventsSpent conn state asked refused = AreFinished conn state (asked ++ refused)
 HasFinished end.Memory conn state asked refused = AreFinished conn state (asked ++ refused)
 HasFinished _ conn state asked refused = AllFinished conn state asked

@@ -4,6 +4,7 @@ pub use Rattle.service_desk.specs.service_events
 pub mod Answering
 pub mod Arrivals
 pub mod Causes
+pub mod Fitting
 pub mod Handshakes
 pub mod Lines
 pub mod OneThread

@@ -5,6 +5,7 @@ use Rattle.dbus_auth.specs.Handshake.{handshake}
 use Rattle.service_desk.specs.Records.{Records, of_own}
 use Rattle.connection_worker.specs.declared.ending.End.{End}
 use Rattle.connection_worker.specs.Causes.{HasCause, HasFinished, HasWritten, HasRefused}
+use Rattle.connection_worker.specs.Fitting.{HasFit}
 use Rattle.connection_worker.specs.Serving.{World, place_of, GivesMoments, GivesSalts}
 use Rattle.service_desk.specs.service_events.specs.Single.{TimedRequest, AllFaultless, moments_of, turns, single}
 use Rattle.connection_worker.specs.Stopping.{StopsAfter}
@@ -30,5 +31,7 @@ pub record IsServed (uid : ℕ) (guid : List ℕ) (from to : Input) (sink after 
   pub salts : GivesSalts old.salting (map (λ (a : TimedRequest). a.salt) (asked ++ refused)) new.salting
   pub cause : HasCause how (handshake uid guid read) asked (old.told.count + length (turns old.told.conn old.told.state asked)) from to sink after
   pub wrote : HasWritten how sink after (concat (handshake uid guid read).answers ++ written old.told.conn old.told.state (single old.told.conn old.told.state asked))
+  -- all outputs could wait, except at Overrun, at which those of what came last couldn't; at WriteFault and Memory they may have been too many
+  pub fit : HasFit how old.told.conn old.told.state asked
   -- after a write that failed, or for which no memory was left, nothing more was asked of the desk, but that the connection is gone
   pub stopped : StopsAfter how sink after (concat (handshake uid guid read).answers) old.told.conn old.told.state (turns old.told.conn old.told.state asked)

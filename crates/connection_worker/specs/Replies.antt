@@ -10,6 +10,10 @@ use Rattle.service_desk.specs.service_events.specs.Step.{message_of, puts_out, s
 use Rattle.service_desk.specs.service_events.specs.Replay.{replay}
 use Rattle.service_desk.specs.service_events.specs.Single.{TimedKey, TimedRequest, arrival, asking, derivation, recorded_of, turn, work_for}
 
+-- the outputs of a request for its connection, without those of its key: its reply, if one is wanted, and then the signals that it sends
+abbrev pub asked_outputs : ConnId → State → TimedRequest → List Out
+asked_outputs conn state asked = sent_to conn (puts_out state (arrival conn asked))
+
 -- the outputs of the key of work for its connection, if it was recorded: the signals that it sends
 abbrev pub key_outputs : ConnId → State → Option Work → Option TimedKey → List Out
 key_outputs conn state None key = []
@@ -19,8 +23,7 @@ key_outputs conn state (Some work) (Some key) = sent_to conn (puts_out state (de
 -- the outputs of a request for its connection: its reply, if one is wanted, then the signals that it sends, and then those of its key
 abbrev pub outputs_of : ConnId → State → TimedRequest → List Out
 outputs_of conn state asked =
-    sent_to conn (puts_out state (arrival conn asked))
-    ++ key_outputs conn (replay state (asking conn state asked)) (work_for conn state asked) asked.key
+    asked_outputs conn state asked ++ key_outputs conn (replay state (asking conn state asked)) (work_for conn state asked) asked.key
 
 -- the outputs of requests, one after the other, each in the state after those before it
 abbrev pub outputs_to : ConnId → State → List TimedRequest → List Out

@@ -1,8 +1,8 @@
 -- Serving requests with a desk, a clock, a generator of salts and a sink: what each of them changes.
-use Rattle.std.specs.Prelude.{◌≡◌, ℕ, ◌+◌, ◌%◌, ◌^◌, false, List, [], ◌∷◌, ◌++◌, length, map, Option, None, Result, Ok, Err}
+use Rattle.std.specs.Prelude.{◌≡◌, ℕ, ◌+◌, ◌%◌, ◌^◌, Bool, false, true, List, [], ◌∷◌, ◌++◌, length, map, Option, None, Result, Ok, Err}
 use Rattle.kr_outside.specs.Clock.{GivesFirst}
 use Rattle.kr_outside.specs.Faults.{Rose}
-use Rattle.service_desk.specs.service_tables.specs.Connections.{new_row, waiting_for}
+use Rattle.service_desk.specs.service_tables.specs.Connections.{is_overrun, new_row, waiting_for}
 use Rattle.service_desk.specs.service_tables.specs.Limits.{IsSpent}
 use Rattle.service_desk.specs.service_tables.specs.Sound.{IsSound}
 use Rattle.service_desk.specs.secret_calls.specs.declared.call.Request.{Request}
@@ -39,15 +39,27 @@ world told has_seen coming desk clock salting = record { told = told desk; has_s
 abbrev pub HasJoined : Told → Type 0
 HasJoined told = told.state.connections.rows ≡ new_row told.conn ∷ []
 
--- The state is sound, and the connection is the only one; these outputs wait for it, it has lost none, and it isn't leaving.
-pub record IsOwed (told : Told) (outs : List Out) : Type 0 where
+-- The state is sound, and the connection is the only one; these outputs wait for it, this is whether it has lost one, and it isn't leaving.
+pub record IsDue (told : Told) (outs : List Out) (lost : Bool) : Type 0 where
   pub sound : IsSound told.state
   pub taken : ℕ
-  pub only : told.state.connections.rows ≡ record { conn = told.conn; waiting = outs; overrun = false; leaving = false; taken = taken } ∷ []
+  pub only : told.state.connections.rows ≡ record { conn = told.conn; waiting = outs; overrun = lost; leaving = false; taken = taken } ∷ []
+
+-- the same for one that has lost none
+abbrev pub IsOwed : Told → List Out → Type 0
+IsOwed told outs = IsDue told outs false
 
 -- the outputs that wait for the connection
 abbrev pub owed : Told → List Out
 owed told = waiting_for told.conn told.state.connections.rows
+
+-- whether the connection has lost an output
+abbrev pub has_lost : Told → Bool
+has_lost told = is_overrun told.conn told.state.connections.rows
+
+-- nothing waits for the only connection, which may have lost an output
+abbrev pub IsIdle : Told → Type 0
+IsIdle told = IsDue told [] (has_lost told)
 
 -- moments that a clock returned one after the other
 abbrev pub GivesMoments : Option (ℕ → ℕ) → List ℕ → Option (ℕ → ℕ) → Type 0
@@ -71,11 +83,12 @@ pub record Recorded (old new : World) (asked refused : List TimedRequest) (late 
   pub salts : GivesSalts old.salting (map (λ (a : TimedRequest). a.salt) (asked ++ refused)) new.salting
 
 -- Why the serving ended early, and what was then written of this text: all of it if no further event can be
--- counted; a prefix of it if the sink failed or memory ran out.
+-- counted, or an output was lost; a prefix of it if the sink failed or memory ran out.
 abbrev pub EndsEarly : End → ℕ → Output → Output → List ℕ → Type 0
 EndsEarly end.EventsSpent count from to text = IsSpent count × Gave from to text
 EndsEarly end.WriteFault count from to text = Rose from.faults to.faults × GaveFront from to text
 EndsEarly end.Memory count from to text = GaveFront from to text
+EndsEarly end.Overrun count from to text = Gave from to text
 EndsEarly _ count from to text = ⊥
 
 -- After one request was recorded, before the output for it is taken.
@@ -127,11 +140,21 @@ Brings work old new (Err _) = ⊥
 abbrev pub HasGiven : Place → Place → Type 0
 HasGiven old new = Records old new (of_own old.told.state (taking old.told.conn old.told.state))
 
--- the outputs that waited were taken and written; or they were taken, and a prefix of them was written
+-- nothing was recorded, and the connection has lost no output; or it has
+abbrev pub FindsLoss : Place → Place → Result Unit End → Type 0
+FindsLoss old new (Ok done) = Records old new [] × (has_lost old.told ≡ false)
+FindsLoss old new (Err end.Overrun) = Records old new [] × (has_lost old.told ≡ true)
+FindsLoss old new (Err _) = ⊥
+
+-- The outputs that waited were taken and written, and none was lost; or the others were, and one was lost; or they were taken, and a prefix of
+-- them was written.
 abbrev pub Gives : Place → Place → ℕ → ℕ → Output → Output → Result Unit End → Type 0
 Gives old new serials behind from to (Ok done) =
     HasGiven old new × StaysAsOpen from to
     × ((taken : ℕ) → AreBehind taken serials → Gave from to (spelled_behind taken (owed old.told)) × AreBehind (taken + length (owed old.told)) behind)
+    × (has_lost old.told ≡ false)
+Gives old new serials behind from to (Err end.Overrun) =
+    HasGiven old new × (has_lost old.told ≡ true) × ((taken : ℕ) → AreBehind taken serials → Gave from to (spelled_behind taken (owed old.told)))
 Gives old new serials behind from to (Err end.WriteFault) =
     HasGiven old new × Rose from.faults to.faults × ((taken : ℕ) → AreBehind taken serials → GaveFront from to (spelled_behind taken (owed old.told)))
 Gives old new serials behind from to (Err end.Memory) =

@@ -10,7 +10,8 @@ use Rattle.connection_worker.specs.declared.ending.End.{End}
 use Rattle.connection_worker.specs.declared.ending.End.TheVariants as end
 use Rattle.connection_worker.specs.Answering.{ServedPrefix}
 use Rattle.connection_worker.specs.Causes.{HasCause, HasFinished, HasWritten, HasRefused}
-use Rattle.connection_worker.specs.Serving.{World, IsOwed, Recorded}
+use Rattle.connection_worker.specs.Fitting.{HasFit}
+use Rattle.connection_worker.specs.Serving.{World, IsIdle, Recorded}
 use Rattle.service_desk.specs.service_events.specs.Single.{TimedRequest, turns}
 use Rattle.connection_worker.specs.Stopping.{StopsFor}
 use Rattle.connection_worker.specs.Streams.{Input, Output, Took, IsStill}
@@ -35,7 +36,8 @@ pub record ServesOn (has : Framing) (from to : Input) (old new : World) (sink af
   pub late : List ℕ
   pub recorded : Recorded old new asked refused late
   pub finished : HasFinished how old.told.conn old.told.state asked refused
-  pub idle : IsOwed new.told []
+  pub idle : IsIdle new.told
+  pub fit : HasFit how old.told.conn old.told.state asked
   pub few : HasRefused how (silent (opened (has.rest ++ read))) asked refused late
   pub cause : HasCause how (silent (opened (has.rest ++ read))) asked new.told.count from to sink after
   pub wrote : HasWritten how sink after (written_after old.told.conn 0 old.told.state (turns old.told.conn old.told.state asked))

@@ -1,5 +1,5 @@
 -- What the reader and the writer of a connection have in common: each has a desk of its own, and sees the events of others among its own.
-use Rattle.std.specs.Prelude.{ℕ, ◌+◌, List, [], ◌∷◌, length}
+use Rattle.std.specs.Prelude.{◌+◌, List, [], ◌∷◌, length}
 use Rattle.service_desk.specs.service_events.specs.Replay.{replay}
 use Rattle.service_desk.specs.Places.{Told}
 use Rattle.service_desk.specs.Records.{Seen, Others, Own, events_of}

@@ -1,4 +1,4 @@
--- Where the serving of requests stops after a write that failed, or for which no memory was left.
+-- Where a connection stops serving requests after a write that failed, or for which no memory was left.
 use Rattle.std.specs.Prelude.{◌≡◌, ℕ, ◌+◌, ◌⊎◌, List, [], ◌++◌, length}
 use Rattle.kr_base.specs.declared.ids.ConnId.{ConnId}
 use Rattle.service_desk.specs.service_tables.specs.Connections.{waiting_for}

@@ -5,7 +5,7 @@ use Rattle.service_desk.specs.secret_calls.specs.declared.out.Out.{Out}
 use Rattle.service_desk.specs.secret_calls.specs.Outs.{spelled}
 use Rattle.service_desk.specs.secret_calls.specs.Serials.{last_serial}
 use Rattle.service_desk.specs.service_tables.specs.State.{State}
-use Rattle.service_desk.specs.service_tables.specs.declared.rows.ConnRow.{ConnRow}
+use Rattle.service_desk.specs.service_tables.specs.signal_fanout.specs.declared.rows.ConnRow.{ConnRow}
 use Rattle.service_desk.specs.service_events.specs.declared.event.Event.{Event}
 use Rattle.service_desk.specs.service_events.specs.declared.event.Event.TheVariants as event
 use Rattle.service_desk.specs.service_tables.specs.Connections.{is_row, waiting_for}

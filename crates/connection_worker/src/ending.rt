@@ -1,7 +1,7 @@
 use dbus_auth::AuthFault;
 use dbus_framing::Violation;
 
-/// Why the serving of a connection ended.
+/// Why a connection is no longer served.
 #[derive(Clone, Copy, Debug, PartialEq, Eq)]
 pub enum End {
     /// Everything was done.

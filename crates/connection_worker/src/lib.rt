@@ -24,7 +24,8 @@ pub use call_wire;
 pub use ending::End;
 pub use laws::{
     complete_messages_are_read_to_their_end, each_request_has_one_reply,
-    each_request_is_answered_at_once, what_is_given_was_taken,
+    each_request_is_answered_at_once, no_reply_is_lost, short_announcements_fit,
+    what_is_given_was_taken,
 };
 pub use opening::handshake;
 pub use reading::read_side;

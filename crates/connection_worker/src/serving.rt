@@ -1,7 +1,7 @@
 // Serving requests on one thread.
 ghost use Rattle.std.specs.Prelude.{◌≡◌, IsTrue, IsFalse, [], length};
 ghost use Rattle.service_desk.specs.Places.{place};
-ghost use Rattle.connection_worker.specs.Serving.{world, owed, IsOwed, Asks, Brings, Gives};
+ghost use Rattle.connection_worker.specs.Serving.{world, has_lost, owed, IsDue, IsOwed, Asks, Brings, FindsLoss, Gives};
 ghost use Rattle.connection_worker.specs.Answering.{AnswersCall, AnswersMessage, AnswersAll};
 ghost use Rattle.connection_worker.specs.Salts.{Salting};
 ghost use Rattle.connection_worker.specs.Handshakes.{most_bytes};
@@ -62,7 +62,22 @@ fn bring<D: ReadDesk, C: Clock>(work: Work, desk: &mut D, clock: &mut C) -> Resu
     }
 }
 
-// Takes the outputs that are due, and writes them.
+// Looks whether an output was lost, once nothing waits any more.
+fn find_loss<D: WriteDesk>(desk: &mut D) -> Result<(), End>
+    requires alone { IsTrue (D.told desk.old).is_alone }
+    requires taken { IsDue (D.told desk.old) [] (has_lost (D.told desk.old)) }
+    ensures { FindsLoss (place D.told D.has_seen desk.old) (place D.told D.has_seen desk.new)
+        result }
+{
+    let rest = desk.take();
+    match rest {
+        Taken::Empty => Ok(()),
+        Taken::Overrun => Err(End::Overrun),
+        Taken::Outs(_) | Taken::Closed | Taken::Missing => Err(End::OtherEnded),
+    }
+}
+
+// Takes the outputs that are due, and writes them. It ends with Overrun if one was lost.
 fn give<O: Sink, D: WriteDesk>(
     alloc: Global,
     output: &mut O,
@@ -70,7 +85,7 @@ fn give<O: Sink, D: WriteDesk>(
     serials: &mut Serials,
 ) -> Result<(), End>
     requires alone { IsTrue (D.told desk.old).is_alone }
-    requires owed { IsOwed (D.told desk.old) (owed (D.told desk.old)) }
+    requires owed { IsDue (D.told desk.old) (owed (D.told desk.old)) (has_lost (D.told desk.old)) }
     requires output_open { IsFalse (O.is_closed output.old) }
     ensures { Gives (place D.told D.has_seen desk.old) (place D.told D.has_seen desk.new)
         serials.old serials.new
@@ -78,7 +93,12 @@ fn give<O: Sink, D: WriteDesk>(
         (output_of O.written O.faults O.is_steady O.is_closed output.new) result }
 {
     match desk.take() {
-        Taken::Outs(outs) => send(alloc, outs.as_slice(), serials, output),
+        Taken::Outs(outs) => {
+            if let Err(end) = send(alloc, outs.as_slice(), serials, output) {
+                return Err(end);
+            }
+            find_loss(desk)
+        }
         Taken::Empty => Ok(()),
         Taken::Overrun => Err(End::Overrun),
         Taken::Closed | Taken::Missing => Err(End::OtherEnded),

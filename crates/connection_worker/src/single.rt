@@ -24,9 +24,10 @@ use std::sync::Wait;
 /// BEGIN (`EndedEarly`); with `Done` if the input ended between two messages; with `Violation` if
 /// the bytes after BEGIN break a rule of messages, or the input ended inside one (`EndInside`);
 /// with `ReadFault` and `WriteFault` only if the count of the source, or of the sink, rose; with
-/// `EventsSpent` if all events that can be counted are recorded; and with `Memory` if no memory was
-/// left. It never ends with `OtherEnded` or `Overrun`. All that was recorded is answered by then,
-/// except at `WriteFault` and `Memory`. No fault of a read is ignored.
+/// `Overrun` after a call, or its key, whose outputs can't all wait together: those that can are
+/// written; with `EventsSpent` if all events that can be counted are recorded; and with `Memory` if no
+/// memory was left. It never ends with `OtherEnded`. All that was recorded is answered by then, except
+/// at `WriteFault` and `Memory`. No fault of a read is ignored.
 pub fn one_thread<R: AllocGlobal + Wait, I: Source, O: Sink, D: ReadDesk + WriteDesk, C: Clock>(
     rt: &R,
     auth: Auth,

@@ -1,5 +1,5 @@
 -- What is counted over the replies to a load: one segment of its calls after the other.
-use Rattle.std.proofs.Common.{◌≡◌, ℕ, zero, suc, ◌+◌, ◌-◌, ◌^◌, ◌<◌, ◌≤◌, Bool, true, false, cond, List, [], ◌∷◌, ◌++◌, length, Option, Some, None, is_some, Result, Ok, bytes_eq, codes, refl, sym, ap, ◌∙◌, subst, arith, length-append}
+use Rattle.std.proofs.Common.{◌≡◌, ℕ, zero, suc, ◌+◌, ◌-◌, ◌≤◌, Bool, true, false, cond, List, [], ◌∷◌, ◌++◌, length, Option, Some, None, is_some, Result, Ok, bytes_eq, codes, refl, sym, ap, ◌∙◌, subst, arith, length-append}
 use Rattle.std.proofs.lemmas.Slice.Eq.{bytes_eq-Decides}
 use Rattle.key_derivation.specs.Kdf.{key_of, vector_of}
 use Rattle.connection_worker.specs.service_events.specs.collection_table.specs.Rows.{Rows}
@@ -39,11 +39,11 @@ use Rattle.load_laws.proofs.TurnLemmas.{Runs, Tables, asked-tables, counted-on, 
 
 -- ---- a call, from the tables of its state
 
-at-tables : (call : Call) (a : TimedRequest) (state : State) (these : Tables) → tables state ≡ these → a.request.call ≡ Ok call
+pub at-tables : (call : Call) (a : TimedRequest) (state : State) (these : Tables) → tables state ≡ these → a.request.call ≡ Ok call
     → served (recorded_of the_connection a) state ≡ ran_from state.connections these call a.salt a.now a.fates
 at-tables call a state these are is = served-call call a state is ∙ ap (λ (t : Tables). ran_from state.connections t call a.salt a.now a.fates) are
 
-fates-at : (call : Call) (a : TimedRequest) (state : State) (these : Tables) → tables state ≡ these → a.request.call ≡ Ok call → Legal state (turn the_connection state a)
+pub fates-at : (call : Call) (a : TimedRequest) (state : State) (these : Tables) → tables state ≡ these → a.request.call ≡ Ok call → Legal state (turn the_connection state a)
     → AreFates the_connection (brought_with a.now (Ok call)) (row_of a.salt call (asked the_connection (brought_with a.now (Ok call)) (with_tables state.connections these))) a.fates (with_tables state.connections these)
 fates-at call a state these are is legal =
     subst
@@ -55,7 +55,7 @@ pub record Led (a : TimedRequest) (state : State) (it : Body) (after : Tables) :
   pub answer : (served (recorded_of the_connection a) state).answer ≡ Ok it
   pub leaves : tables (replay state (turn the_connection state a)) ≡ after
 
-led : (call : Call) (a : TimedRequest) (state : State) (these after : Tables) (it : Body) → tables state ≡ these → a.request.call ≡ Ok call
+pub led : (call : Call) (a : TimedRequest) (state : State) (these after : Tables) (it : Body) → tables state ≡ these → a.request.call ≡ Ok call
     → ((reply : Result Body ErrorName) (s : State) → work_of (Ok call) reply s ≡ None) → Leads state.connections these call a.salt a.now a.fates it after → Led a state it after
 led call a state these after it are is idle leads =
     let same = at-tables call a state these are is in
@@ -177,39 +177,62 @@ creates-count seed all after calls item (suc n) serial (a ∷ more) state rows r
 
 -- ---- the opening
 
-some-of : {A : Type 0} → (o : Option A) → is_some o ≡ true → (it : A) × (o ≡ Some it)
+pub some-of : {A : Type 0} → (o : Option A) → is_some o ≡ true → (it : A) × (o ≡ Some it)
 some-of None is = absurd (let no : false ≡ true = is in cc)
 some-of (Some it) is = (it, refl)
 
--- the key of the answer makes the collection
-made-by-key : (aliases : Option AliasRows) (salt : List ℕ) (a : TimedRequest) (state : State) → length salt ≡ 8 → Legal state (turn the_connection state a) → IsKeyFaultless a.key
+-- the key of the answer can be used, from these tables
+pub record KeyReady (aliases : Option AliasRows) (salt : List ℕ) (a : TimedRequest) (state : State) (key : TimedKey) : Type 0 where
+  pub there : tables (replay state (asking the_connection state a)) ≡ opening_tables aliases [] (prompted salt (stage.Deriving 1)) []
+  pub fits : Fits (replay state (asking the_connection state a)) (derivation the_connection (the_work salt) key)
+  pub fates : AreFates the_connection (brought_derived (derivation_of the_connection (the_work salt) key))
+      (derived the_prompt 1 (terms_of (derivation_of the_connection (the_work salt) key))
+      (asked the_connection (brought_derived (derivation_of the_connection (the_work salt) key))
+      (with_tables (replay state (asking the_connection state a)).connections (opening_tables aliases [] (prompted salt (stage.Deriving 1)) []))))
+      key.fates (with_tables (replay state (asking the_connection state a)).connections (opening_tables aliases [] (prompted salt (stage.Deriving 1)) []))
+  pub fine : AreFaultless key.fates
+
+pub key-ready : (aliases : Option AliasRows) (salt : List ℕ) (a : TimedRequest) (state : State) (key : TimedKey) → Legal state (turn the_connection state a) → IsKeyFaultless a.key
+    → work_for the_connection state a ≡ Some (the_work salt) → a.key ≡ Some key
+    → tables (served (recorded_of the_connection a) state).state ≡ opening_tables aliases [] (prompted salt (stage.Deriving 1)) [] → KeyReady aliases salt a state key
+key-ready aliases salt a state key legal faultless work found are =
+    let asks = asking the_connection state a in
+    let here = replay state asks in
+    let came : Derivation = derivation_of the_connection (the_work salt) key in
+    let these = opening_tables aliases [] (prompted salt (stage.Deriving 1)) [] in
+    let behind : Legal here (finishing the_connection here (work_for the_connection state a) a.key) = legal-behind state asks (finishing the_connection here (work_for the_connection state a) a.key) legal in
+    let its : Legal here (finishing the_connection here (Some (the_work salt)) (Some key)) = subst (λ (k : Option TimedKey). Legal here (finishing the_connection here (Some (the_work salt)) k)) found
+    (subst (λ (w : Option Work). Legal here (finishing the_connection here w a.key)) work behind) in
+    let fits : Fits here (derivation the_connection (the_work salt) key) = its.0 in
+    let there : tables here ≡ these = asked-tables the_connection state a ∙ are in
+    record {
+      there = there;
+      fits = fits;
+      fates =
+          subst
+          (λ (t : Tables). AreFates the_connection (brought_derived came) (derived the_prompt 1 (terms_of came) (asked the_connection (brought_derived came) (with_tables here.connections t))) key.fates (with_tables here.connections t))
+          there fits.1.fates;
+      fine = subst IsKeyFaultless found faultless;
+    }
+
+-- it makes the collection
+pub made-by-key : (aliases : Option AliasRows) (salt : List ℕ) (a : TimedRequest) (state : State) → length salt ≡ 8 → Legal state (turn the_connection state a) → IsKeyFaultless a.key
     → work_for the_connection state a ≡ Some (the_work salt) → is_some a.key ≡ true
     → tables (served (recorded_of the_connection a) state).state ≡ opening_tables aliases [] (prompted salt (stage.Deriving 1)) []
     → (now : ℕ) × (tables (replay state (turn the_connection state a)) ≡ opening_tables aliases (the_name ∷ []) (registered 2) ((the_name, new_collection salt now) ∷ []))
 made-by-key aliases salt a state eight legal faultless work some are =
     let found = some-of a.key some in
     let key : TimedKey = found.0 in
-    let asks = asking the_connection state a in
-    let here = replay state asks in
+    let here = replay state (asking the_connection state a) in
     let came : Derivation = derivation_of the_connection (the_work salt) key in
-    let these = opening_tables aliases [] (prompted salt (stage.Deriving 1)) [] in
-    let behind : Legal here (finishing the_connection here (work_for the_connection state a) a.key) = legal-behind state asks (finishing the_connection here (work_for the_connection state a) a.key) legal in
-    let its : Legal here (finishing the_connection here (Some (the_work salt)) (Some key)) = subst (λ (k : Option TimedKey). Legal here (finishing the_connection here (Some (the_work salt)) k)) found.1
-    (subst (λ (w : Option Work). Legal here (finishing the_connection here w a.key)) work behind) in
-    let fits : Fits here (derivation the_connection (the_work salt) key) = its.0 in
-    let there : tables here ≡ these = asked-tables the_connection state a ∙ are in
-    let fates : AreFates the_connection (brought_derived came) (derived the_prompt 1 (terms_of came) (asked the_connection (brought_derived came) (with_tables here.connections these))) key.fates (with_tables here.connections these) =
-    subst
-    (λ (t : Tables). AreFates the_connection (brought_derived came) (derived the_prompt 1 (terms_of came) (asked the_connection (brought_derived came) (with_tables here.connections t))) key.fates (with_tables here.connections t))
-    there fits.1.fates in
-    let fine : AreFaultless key.fates = subst IsKeyFaultless found.1 faultless in (
+    let ready = key-ready aliases salt a state key legal faultless work found.1 are in (
       key.now,
-      keyed-turn the_connection state a (the_work salt) key work found.1 ∙ ap (λ (t : Tables). tables (finished came (with_tables here.connections t)).state) there
-          ∙ key-leaves here.connections aliases salt key.now key.fates eight fates fine,
+      keyed-turn the_connection state a (the_work salt) key work found.1 ∙ ap (λ (t : Tables). tables (finished came (with_tables here.connections t)).state) ready.there
+          ∙ key-leaves here.connections aliases salt key.now key.fates eight ready.fates ready.fine,
     )
 
 -- the front of the new collection
-new-front : (salt : List ℕ) (now : ℕ) → length salt ≡ 8 → IsFront (new_collection salt now).clear
+pub new-front : (salt : List ℕ) (now : ℕ) → length salt ≡ 8 → IsFront (new_collection salt now).clear
 new-front salt now eight = record { plain = refl; salt = eight; iterations = omega arith; label = refl }
 
 pub opening-count : (seed : ℕ) (all : List Call) (after : Counts) (calls : List Call) (aliases : Option AliasRows) (asked : List TimedRequest) (state : State)

@@ -1,5 +1,5 @@
 -- A call that makes an item of a load, once the collection has those before it.
-use Rattle.std.proofs.Common.{◌≡◌, ℕ, ◌+◌, ◌*◌, ◌-◌, ◌^◌, ◌<◌, ◌≤◌, not, Bool, true, false, cond, nat_le, List, [], ◌∷◌, ◌++◌, length, map, Option, Some, None, Ok, Err, codes, decimal, refl, sym, ap, ◌∙◌, subst, arith, length-append, le-leb}
+use Rattle.std.proofs.Common.{◌≡◌, ℕ, ◌+◌, ◌<◌, ◌≤◌, not, Bool, true, false, cond, nat_le, List, [], ◌∷◌, ◌++◌, length, map, Option, Some, None, Ok, Err, codes, decimal, refl, sym, ap, ◌∙◌, subst, arith, length-append, le-leb}
 use Rattle.std.proofs.lemmas.Bool.Decides.{nat_tests}
 use Rattle.kr_names.specs.declared.object_name.ObjectName.TheVariants as name
 use Rattle.kr_names.specs.Path.{path_text}
@@ -12,17 +12,19 @@ use Rattle.connection_worker.specs.service_events.specs.service_tables.specs.key
 use Rattle.connection_worker.specs.service_events.specs.collection_store.specs.Changes.{as_content, content_changed, content_stored, made_new, minor_made, new_row, rows_made}
 use Rattle.connection_worker.specs.service_events.specs.collection_store.specs.Outcomes.{most_for}
 use Rattle.connection_worker.specs.service_events.specs.collection_store.specs.State.{Held}
-use Rattle.connection_worker.specs.service_events.specs.collection_store.specs.Storable.{sized}
+use Rattle.connection_worker.specs.service_events.specs.collection_store.specs.Storable.{answer_of, sized}
 use Rattle.connection_worker.specs.service_events.specs.collection_store.specs.declared.change.Change.{Change}
 use Rattle.connection_worker.specs.service_events.specs.collection_store.specs.declared.change.Change.TheVariants as change
 use Rattle.connection_worker.specs.service_events.specs.collection_store.specs.declared.change.Changed.{Changed}
 use Rattle.connection_worker.specs.service_events.specs.collection_store.specs.declared.change.Changed.TheVariants as changed
-use Rattle.connection_worker.specs.service_events.specs.collection_store.specs.declared.refused.ChangeRefused.{ChangeRefused}
 use Rattle.connection_worker.specs.service_events.specs.collection_store.specs.declared.refused.ChangeRefused.TheVariants as refused
 use Rattle.connection_worker.specs.service_events.specs.collection_table.specs.Rows.{CollectionRow, Rows, is_full, items_in, room_in}
 use Rattle.connection_worker.specs.service_events.specs.secret_calls.specs.declared.out.Body.{Body}
 use Rattle.connection_worker.specs.service_events.specs.secret_calls.specs.declared.out.Body.TheVariants as body
 use Rattle.connection_worker.specs.service_events.specs.secret_calls.specs.declared.out.ErrorName.TheVariants as name-of-error
+use Rattle.connection_worker.specs.service_events.specs.secret_calls.specs.declared.out.Out.TheVariants as out
+use Rattle.connection_worker.specs.service_events.specs.secret_calls.specs.declared.signal.Signal.{Signal}
+use Rattle.connection_worker.specs.service_events.specs.service_prompts.specs.Announcing.{announced, item_made_signals, store_signals}
 use Rattle.connection_worker.specs.service_events.specs.alias_table.specs.Table.{AliasRows}
 use Rattle.prompt_state.specs.declared.row.Prompts.{Prompts}
 use Rattle.connection_worker.specs.service_events.specs.service_tables.specs.State.{State}
@@ -35,8 +37,10 @@ use Rattle.connection_worker.specs.service_events.specs.service_tables.specs.dec
 use Rattle.connection_worker.specs.service_events.specs.CollectionCalls.{by_fate, made, storing}
 use Rattle.connection_worker.specs.service_events.specs.Fates.{AreFaultless}
 use Rattle.connection_worker.specs.service_events.specs.Plan.{Plan, Asks, Store}
-use Rattle.connection_worker.specs.service_events.specs.Run.{AreFates, AreNone, Ran, asked, by_store, by_test, demanded, failing, fits, run, sending}
+use Rattle.connection_worker.specs.service_events.specs.Run.{AreFates, AreNone, Ran, asked, by_store, by_test, demanded, failing, fits, run, sending, sent_asked}
 use Rattle.connection_worker.specs.service_events.specs.Step.{brought_with, row_of}
+use Rattle.connection_worker.specs.service_events.specs.service_tables.specs.Sent.{Sent}
+use Rattle.connection_worker.specs.Fitting.{announced_in}
 use Rattle.load_plan.specs.Plan.{attributes_of, create, the_name}
 use Rattle.load_plan.specs.Words.{secret_of}
 use Rattle.load_laws.specs.Requests.{the_connection}
@@ -205,14 +209,19 @@ module _ (seed now : ℕ) (salt : List ℕ) (fates : List Fate) (connections : C
     abbrev after : State
     after = demanded brought (Store the_name edit) ended.Stored here
 
+    -- what is announced of that
+    abbrev said : List Sent
+    said = sent_asked brought (Store the_name edit) ended.Stored here
+
     abbrev done : Ran
-    done = record { answer = Ok answered; state = after; sends = [] }
+    done = sending said (record { answer = Ok answered; state = after; sends = [] })
 
     ran-is : ran_from connections (tables_with prompts aliases used (collection_of image front key vector rows)) (create seed item) salt now fates ≡ done
     ran-is =
         ap (λ (plan : Plan). run the_connection brought plan fates here) plan-is
         ∙ ap (λ (them : List Fate). run the_connection brought the_plan them here) fates-are
-        ∙ ap (λ (b : Bool). by_test b (sending [] (by_test b done (failing name-of-error.LimitsExceeded after))) (failing name-of-error.LimitsExceeded here)) answered-fits
+        ∙ ap (λ (b : Bool). by_test b (sending said (by_test b (record { answer = Ok answered; state = after; sends = [] }) (failing name-of-error.LimitsExceeded after))) (failing name-of-error.LimitsExceeded here))
+        answered-fits
 
     row-is : row_after ended.Stored held (collection_of image front key vector rows) (content_changed change_is now clear rows)
         ≡ collection_of (sealed content key vector) front-made key vector all
@@ -242,3 +251,10 @@ module _ (seed now : ℕ) (salt : List ℕ) (fates : List Fate) (connections : C
 
     pub answer-is : (ran_from connections (tables_with prompts aliases used (collection_of image front key vector rows)) (create seed item) salt now fates).answer ≡ Ok answered
     answer-is = ap (λ (r : Ran). r.answer) ran-is
+
+    -- the signals of an item that is made
+    pub create-says : announced_in (ran_from connections (tables_with prompts aliases used (collection_of image front key vector rows)) (create seed item) salt now fates).sends
+        ≡ map (λ (it : Signal). out.Signal it) (item_made_signals the_name (record { 0 = item + 1 }))
+    create-says =
+        ap (λ (r : Ran). announced_in r.sends) ran-is
+        ∙ ap (λ (a : Option Changed). announced_in (announced (store_signals the_name change_is ended.Stored a) ++ [])) (ap (λ r. placed these (answer_of r)) made-content ∙ ap (λ (b : Bool). cond b (Some answer) None) has-place)

@@ -1,5 +1,5 @@
 -- How long the file of a collection with short items is.
-use Rattle.std.proofs.Common.{◌≡◌, ℕ, ◌+◌, ◌*◌, ◌%◌, ◌<◌, ◌≤◌, List, [], ◌∷◌, ◌++◌, length, map, nat_eq, refl, ap, ◌∙◌, arith, length-append}
+use Rattle.std.proofs.Common.{◌≡◌, ℕ, ◌+◌, ◌*◌, ◌≤◌, List, [], ◌∷◌, ◌++◌, length, map, nat_eq, refl, ap, ◌∙◌, arith, length-append}
 use Rattle.std.specs.List.{AllByRecursion, IsDistinct, flat_map, zip}
 use Rattle.keyring_text.specs.Fields.{number, string, time}
 use Rattle.keyring_file.specs.Canonical.{front_text, item_text, padding, zeros}

@@ -1,21 +1,20 @@
 -- What the counts over the replies to a load are.
-use Rattle.std.proofs.Common.{◌≡◌, ℕ, ◌+◌, ◌*◌, ◌<◌, ◌≤◌, ◌==◌, Bool, true, false, cond, List, [], ◌∷◌, ◌++◌, filter, length, Option, Some, None, refl, sym, ap, ◌∙◌, subst, arith, length-append}
+use Rattle.std.proofs.Common.{◌≡◌, ℕ, suc, ◌*◌, ◌≤◌, ◌==◌, Bool, true, false, cond, List, [], ◌∷◌, ◌++◌, filter, length, Option, Some, None, refl, sym, ap, ◌∙◌, subst, arith, length-append}
 use Rattle.kr_base.specs.declared.ids.ConnId.{ConnId}
 use Rattle.dbus_framing.specs.Messages.{Parts}
 use Rattle.dbus_framing.specs.Streams.{AreMessages, is_kept, joined}
 use Rattle.dbus_framing.proofs.Cuts.{one_stream}
+use Rattle.connection_worker.specs.service_events.specs.secret_calls.specs.declared.call.Call.{Call}
 use Rattle.connection_worker.specs.service_events.specs.secret_calls.specs.declared.call.Request.{Request}
 use Rattle.connection_worker.specs.service_events.specs.secret_calls.specs.declared.out.Out.{Out}
 use Rattle.connection_worker.specs.service_events.specs.secret_calls.specs.declared.work.Work.{Work}
-use Rattle.connection_worker.specs.service_events.specs.service_tables.specs.Opened.{Contents, opened_state}
-use Rattle.connection_worker.specs.service_events.specs.service_tables.specs.Sound.{AreSoundContents, IsSound}
+use Rattle.connection_worker.specs.service_events.specs.service_tables.specs.Opened.{Contents}
+use Rattle.connection_worker.specs.service_events.specs.service_tables.specs.Sound.{AreSoundContents}
 use Rattle.connection_worker.specs.service_events.specs.service_tables.specs.State.{State}
-use Rattle.connection_worker.specs.service_events.specs.declared.event.Event.{Event}
 use Rattle.connection_worker.specs.service_events.specs.declared.event.Event.TheVariants as event
 use Rattle.connection_worker.specs.service_events.specs.Replay.{replay, Legal}
 use Rattle.connection_worker.specs.service_events.specs.Step.{step}
-use Rattle.connection_worker.specs.service_events.specs.Single.{AllFaultless, AllFinished, TimedKey, TimedRequest, arrival, asking, derivation, finishing, is_owed, requests_of, taking, turn, turns, work_for}
-use Rattle.connection_worker.specs.service_events.proofs.SoundLemmas.{sound_start, sound_step}
+use Rattle.connection_worker.specs.service_events.specs.Single.{AllFaultless, AllFinished, AreFinished, TimedKey, TimedRequest, arrival, asking, derivation, finishing, is_owed, requests_of, taking, turn, turns, work_for}
 use Rattle.connection_worker.specs.Arrivals.{AreRequests, FirstRequests, calls_in}
 use Rattle.connection_worker.specs.Replies.{is_reply, outputs_to, replies_to}
 use Rattle.connection_worker.specs.Written.{spelled_behind}
@@ -23,26 +22,37 @@ use Rattle.load_plan.specs.declared.counts.Counts.{Counts}
 use Rattle.load_plan.specs.Counts.{none}
 use Rattle.load_plan.specs.Plan.{plan}
 use Rattle.load_plan.specs.Answered.{CountsMessages, most_bytes, with_messages}
-use Rattle.load_laws.specs.Requests.{AreAsked, the_connection}
+use Rattle.load_laws.specs.Requests.{AreAsked, AreFirstAsked, the_connection}
 use Rattle.load_laws.specs.Outputs.{Counted, all_counted, started}
 use Rattle.load_laws.proofs.StreamLemmas.{ReadsReturns, SendsMessages, outputs-counted, outputs-go, outputs-stream, replies-counted}
-use Rattle.load_laws.proofs.WholeLemmas.{load-counts}
-
-sound-started : (contents : Contents) → AreSoundContents contents → IsSound (started contents)
-sound-started contents sound = sound_step (opened_state contents) (event.Connect the_connection) (sound_start contents sound) (refl, omega arith, omega arith)
+use Rattle.load_laws.proofs.FitLemmas.{ShortFit, load-fit}
+use Rattle.load_laws.proofs.WholeLemmas.{load-counts, sound-started}
 
 -- the replies among the outputs
 abbrev pub HasReplies : Type 0
 HasReplies = (asked : List TimedRequest) (conn : ConnId) (state : State) → filter is_reply (outputs_to conn state asked) ≡ replies_to conn state asked
 
+-- all requests are the first ones, too
+first-asked : (serial : ℕ) (calls : List Call) (asked : List TimedRequest) → AreAsked serial calls asked → AreFirstAsked serial calls asked
+first-asked serial [] [] are = tt
+first-asked serial [] (a ∷ more) are = absurd are
+first-asked serial (it ∷ calls) [] are = tt
+first-asked serial (it ∷ calls) (a ∷ more) are = (are.0, first-asked (suc serial) calls more are.1)
+
+finished-first : (conn : ConnId) (asked : List TimedRequest) (state : State) → AllFinished conn state asked → AreFinished conn state asked
+finished-first conn [] state is = tt
+finished-first conn (a ∷ []) state is = λ its. sym is.0 ∙ its
+finished-first conn (a ∷ next ∷ more) state is = (is.0, finished-first conn (next ∷ more) (replay state (turn conn state a)) is.1)
+
 -- all items were made, found and read
-pub counts-all : ReadsReturns → SendsMessages → HasReplies → (items seed : ℕ) (contents : Contents) (asked : List TimedRequest) (counts : Counts) → items ≤ 1000 → AreSoundContents contents → contents.collections ≡ [] → contents.used ≡ []
+pub counts-all : ReadsReturns → SendsMessages → HasReplies → ShortFit → (items seed : ℕ) (contents : Contents) (asked : List TimedRequest) (counts : Counts) → items ≤ 1000 → AreSoundContents contents → contents.collections ≡ [] → contents.used ≡ []
     → AreAsked 1 (plan items seed) asked → Legal (started contents) (turns the_connection (started contents) asked) → AllFaultless asked → AllFinished the_connection (started contents) asked
     → CountsMessages seed (plan items seed) (spelled_behind 0 (outputs_to the_connection (started contents) asked)) counts → counts ≡ all_counted items
-counts-all reads sends among items seed contents asked counts few sound empty unused are legal faultless finished is =
+counts-all reads sends among fit items seed contents asked counts few sound empty unused are legal faultless finished is =
     let state = started contents in
     let outs = outputs_to the_connection state asked in
-    let go = outputs-go the_connection asked state (sound-started contents sound) legal in
+    let together = load-fit fit items seed contents asked few sound empty unused (first-asked 1 (plan items seed) asked are) legal faultless (finished-first the_connection asked state finished) in
+    let go = outputs-go the_connection asked state (sound-started contents sound) legal together in
     let same = (one_stream most_bytes (spelled_behind 0 outs) is.rest [] is.messages _ is.stream (outputs-stream sends outs 0 go)).0 in
     let replies = load-counts items seed contents asked few empty unused are legal faultless finished in
     let counted = replies-counted seed (plan items seed) (all_counted items) outs none (subst (λ (l : List Out). Counted seed (plan items seed) none l (all_counted items)) (sym (among asked the_connection state)) replies) in

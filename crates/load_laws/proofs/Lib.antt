@@ -9,6 +9,7 @@ mod SearchLemmas
 mod ReadLemmas
 mod CountLemmas
 mod WholeLemmas
+mod FitLemmas
 mod StreamLemmas
 mod AskedLemmas
 pub mod SendLemmas

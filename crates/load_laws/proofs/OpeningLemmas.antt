@@ -1,5 +1,5 @@
 -- The first five calls of a load: the collection is made and is unlocked, and the session is opened.
-use Rattle.std.proofs.Common.{◌≡◌, ℕ, ◌+◌, ◌<◌, ◌≤◌, ◌&&◌, ◌==◌, Bool, true, cond, List, [], ◌∷◌, ◌++◌, length, Option, Some, None, Ok, codes, refl, sym, ap, ◌∙◌, subst, arith}
+use Rattle.std.proofs.Common.{◌≡◌, ℕ, ◌&&◌, Bool, true, cond, List, [], ◌∷◌, length, map, Option, Some, None, Ok, codes, refl, sym, ap, ◌∙◌, subst, arith}
 use Rattle.key_derivation.specs.Kdf.{key_of, vector_of}
 use Rattle.kr_base.specs.Attributes.{is_name}
 use Rattle.connection_worker.specs.service_events.specs.secret_calls.specs.declared.call.Call.{Call}
@@ -7,13 +7,14 @@ use Rattle.connection_worker.specs.service_events.specs.secret_calls.specs.decla
 use Rattle.connection_worker.specs.service_events.specs.secret_calls.specs.declared.out.Body.{Body}
 use Rattle.connection_worker.specs.service_events.specs.secret_calls.specs.declared.out.Body.TheVariants as body
 use Rattle.connection_worker.specs.service_events.specs.secret_calls.specs.declared.out.ErrorName.TheVariants as name
+use Rattle.connection_worker.specs.service_events.specs.secret_calls.specs.declared.out.Out.TheVariants as out
+use Rattle.connection_worker.specs.service_events.specs.secret_calls.specs.declared.signal.Signal.{Signal}
 use Rattle.connection_worker.specs.service_events.specs.secret_calls.specs.declared.work.Work.{Work}
 use Rattle.connection_worker.specs.service_events.specs.secret_calls.proofs.SizeLemmas.{prompt-short}
 use Rattle.connection_worker.specs.service_events.specs.alias_table.specs.Table.{AliasRows}
 use Rattle.connection_worker.specs.service_events.specs.collection_table.specs.Rows.{Rows, CollectionRow, stored}
 use Rattle.prompt_state.specs.Prompts.{no_prompts}
 use Rattle.prompt_state.specs.declared.row.Prompts.{Prompts}
-use Rattle.prompt_state.specs.declared.row.PromptKind.{PromptKind}
 use Rattle.prompt_state.specs.declared.row.PromptKind.TheVariants as kind
 use Rattle.prompt_state.specs.declared.row.Stage.{Stage}
 use Rattle.prompt_state.specs.declared.row.Stage.TheVariants as stage
@@ -37,6 +38,8 @@ use Rattle.connection_worker.specs.service_events.specs.Fates.{AreFaultless}
 use Rattle.connection_worker.specs.service_events.specs.Plan.{Answer, Returns, Change, Become_agent, Begin_prompt, Derive_key, Go_on, Open_session, Plan, Ends, Asks, Make}
 use Rattle.connection_worker.specs.service_events.specs.Run.{AreFates, AreNone, Ran, asked, by_store, by_test, demanded, failing, filled, fits, performed_all, run, sent_all}
 use Rattle.connection_worker.specs.service_events.specs.Step.{brought_with, brought_derived, finished, row_of, terms_of, work_of}
+use Rattle.connection_worker.specs.service_events.specs.service_prompts.specs.Announcing.{made_signals}
+use Rattle.connection_worker.specs.Fitting.{announced_in}
 use Rattle.load_plan.specs.Plan.{the_name, the_prompt}
 use Rattle.load_laws.specs.Requests.{the_connection}
 use Rattle.load_laws.proofs.TurnLemmas.{Tables, tables, with_tables}
@@ -70,10 +73,11 @@ ran_from connections before call salt now fates =
     let state = with_tables connections before in
     run the_connection (brought_with now (Ok call)) (row_of salt call (asked the_connection (brought_with now (Ok call)) state)) fates state
 
--- a call that is answered so, and leaves these tables
+-- a call that is answered so, leaves these tables, and announces nothing
 pub record Leads (connections : ConnRows) (before : Tables) (call : Call) (salt : List ℕ) (now : ℕ) (fates : List Fate) (it : Body) (after : Tables) : Type 0 where
   pub answer : (ran_from connections before call salt now fates).answer ≡ Ok it
   pub leaves : tables (ran_from connections before call salt now fates).state ≡ after
+  pub silent : announced_in (ran_from connections before call salt now fates).sends ≡ []
 
 -- a plan that ends at once, if its answer fits
 pub run-ends : (brought : Brought) (fates : List Fate) (state : State) (answer : Answer) (changes : List Change) → fits (filled the_connection state answer) ≡ true
@@ -89,7 +93,7 @@ module _ (connections : ConnRows) (aliases : Option AliasRows) (salt : List ℕ)
   pub registers : Leads connections (opening_tables aliases [] no_prompts []) call.Register salt now fates body.Empty (opening_tables aliases [] (registered 1) [])
   registers =
       let ends = run-ends (brought_with now (Ok call.Register)) fates (from no_prompts) (Returns public.Empty) (Become_agent ∷ []) empty-fits in
-      record { answer = ap (λ (r : Ran). r.answer) ends; leaves = ap (λ (r : Ran). tables r.state) ends }
+      record { answer = ap (λ (r : Ran). r.answer) ends; leaves = ap (λ (r : Ran). tables r.state) ends; silent = ap (λ (r : Ran). announced_in r.sends) ends }
 
   pub creates : Leads connections (opening_tables aliases [] (registered 1) []) (call.CreateCollection the_name None) salt now fates (body.ObjectAndPrompt (codes "/") (Some the_prompt))
       (opening_tables aliases [] (prompted salt stage.Made) [])
@@ -97,27 +101,27 @@ module _ (connections : ConnRows) (aliases : Option AliasRows) (salt : List ℕ)
       let small = object-fits (codes "/") (Some the_prompt) (omega arith) (omega (arith, prompt-short the_prompt (omega arith))) in
       let ends =
       run-ends (brought_with now (Ok (call.CreateCollection the_name None))) fates (from (registered 1)) (Returns (public.ObjectAndPrompt (codes "/") (Some the_prompt))) (Begin_prompt (kind.Create the_name [] salt) ∷ []) small in
-      record { answer = ap (λ (r : Ran). r.answer) ends; leaves = ap (λ (r : Ran). tables r.state) ends }
+      record { answer = ap (λ (r : Ran). r.answer) ends; leaves = ap (λ (r : Ran). tables r.state) ends; silent = ap (λ (r : Ran). announced_in r.sends) ends }
 
   pub prompts : (kept : List ℕ) → Leads connections (opening_tables aliases [] (prompted kept stage.Made) []) (call.Prompt the_prompt) salt now fates body.Empty
       (opening_tables aliases [] (prompted kept (stage.Asked 1)) [])
   prompts kept =
       let ends = run-ends (brought_with now (Ok (call.Prompt the_prompt))) fates (from (prompted kept stage.Made)) (Returns public.Empty) (Go_on the_prompt ∷ []) empty-fits in
-      record { answer = ap (λ (r : Ran). r.answer) ends; leaves = ap (λ (r : Ran). tables r.state) ends }
+      record { answer = ap (λ (r : Ran). r.answer) ends; leaves = ap (λ (r : Ran). tables r.state) ends; silent = ap (λ (r : Ran). announced_in r.sends) ends }
 
   pub answers : (kept : List ℕ) → Leads connections (opening_tables aliases [] (prompted kept (stage.Asked 1)) []) (call.Answer (Some the_prompt) 1 the_name) salt now fates body.Empty
       (opening_tables aliases [] (prompted kept (stage.Deriving 1)) [])
   answers kept =
       let ends =
       run-ends (brought_with now (Ok (call.Answer (Some the_prompt) 1 the_name))) fates (from (prompted kept (stage.Asked 1))) (Returns public.Empty) (Derive_key the_prompt 1 ∷ []) empty-fits in
-      record { answer = ap (λ (r : Ran). r.answer) ends; leaves = ap (λ (r : Ran). tables r.state) ends }
+      record { answer = ap (λ (r : Ran). r.answer) ends; leaves = ap (λ (r : Ran). tables r.state) ends; silent = ap (λ (r : Ran). announced_in r.sends) ends }
 
   pub opens : (prompts : Prompts) (rows : Rows) (used : List (List ℕ)) → Leads connections (opening_tables aliases used prompts rows) (call.OpenSession (codes "plain")) salt now fates (body.Session (record { 0 = 1 }))
       (record { sessions = the_sessions; prompts = prompts; collections = rows; aliases = aliases; used = used })
   opens prompts rows used =
       let ends =
       run-ends (brought_with now (Ok (call.OpenSession (codes "plain")))) fates (with_tables connections (opening_tables aliases used prompts rows)) (Returns (public.Session (record { 0 = 1 }))) (Open_session ∷ []) session-fits in
-      record { answer = ap (λ (r : Ran). r.answer) ends; leaves = ap (λ (r : Ran). tables r.state) ends }
+      record { answer = ap (λ (r : Ran). r.answer) ends; leaves = ap (λ (r : Ran). tables r.state) ends; silent = ap (λ (r : Ran). announced_in r.sends) ends }
 
 -- ---- the key
 
@@ -196,3 +200,9 @@ module _ (connections : ConnRows) (aliases : Option AliasRows) (salt : List ℕ)
     key-leaves =
         ap (λ (plan : Plan). tables (run the_connection brought plan fates here).state) plan-is
         ∙ ap (λ (them : List Fate). tables (run the_connection brought the_plan them here).state) fates-are
+
+    -- that is announced, and nothing else is
+    pub key-says : announced_in (finished the_key here).sends ≡ map (λ (it : Signal). out.Signal it) (made_signals the_name)
+    key-says =
+        ap (λ (plan : Plan). announced_in (run the_connection brought plan fates here).sends) plan-is
+        ∙ ap (λ (them : List Fate). announced_in (run the_connection brought the_plan them here).sends) fates-are

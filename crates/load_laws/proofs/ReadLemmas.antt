@@ -1,13 +1,10 @@
 -- A call that reads an item of a load, once all are made.
-use Rattle.std.proofs.Common.{◌≡◌, ℕ, ◌+◌, ◌<◌, ◌≤◌, Bool, true, cond, List, [], ◌∷◌, length, Option, option_map, option_and_then, Ok, codes, ap, ◌∙◌, arith}
+use Rattle.std.proofs.Common.{◌≡◌, ℕ, ◌+◌, ◌<◌, Bool, true, cond, List, [], length, Option, option_map, option_and_then, Ok, codes, ap, ◌∙◌, arith}
 use Rattle.keyring_file.specs.Clear.{ClearPart}
 use Rattle.keyring_file.specs.declared.area.FullItem.{FullItem}
 use Rattle.keyring_file.specs.declared.clear.ClearItem.{ClearItem}
 use Rattle.connection_worker.specs.service_events.specs.service_tables.specs.keyring_seal.specs.Arranged.{Row}
-use Rattle.connection_worker.specs.service_events.specs.secret_calls.specs.declared.call.Call.TheVariants as call
-use Rattle.connection_worker.specs.service_events.specs.secret_calls.specs.declared.out.Body.{Body}
 use Rattle.connection_worker.specs.service_events.specs.secret_calls.specs.declared.out.Body.TheVariants as body
-use Rattle.connection_worker.specs.service_events.specs.secret_calls.specs.declared.out.ErrorName.{ErrorName}
 use Rattle.connection_worker.specs.service_events.specs.secret_calls.specs.declared.out.ErrorName.TheVariants as name
 use Rattle.connection_worker.specs.service_events.specs.secret_calls.specs.declared.secret.ReturnedSecret.{ReturnedSecret}
 use Rattle.connection_worker.specs.service_events.specs.alias_table.specs.Table.{AliasRows}
@@ -18,6 +15,7 @@ use Rattle.connection_worker.specs.service_events.specs.service_tables.specs.dec
 use Rattle.connection_worker.specs.service_events.specs.Plan.{Ends, Gift, Gives, Secret_of, refused}
 use Rattle.connection_worker.specs.service_events.specs.Run.{Ran, filled, fits, run, secret_returned}
 use Rattle.connection_worker.specs.service_events.specs.Step.{brought_with}
+use Rattle.connection_worker.specs.Fitting.{announced_in}
 use Rattle.load_plan.specs.Plan.{read, the_name, the_session}
 use Rattle.load_plan.specs.Words.{secret_of}
 use Rattle.load_laws.specs.Requests.{the_connection}
@@ -62,4 +60,4 @@ module _ (seed item now : ℕ) (salt : List ℕ) (fates : List Fate) (connection
       let brought = brought_with now (Ok (read item)) in
       let first = ap (λ (b : Bool). run the_connection brought (cond b (Ends (Gives gift) []) (refused name.NoSuchObject)) fates here) its.shown in
       let ends = first ∙ run-ends brought fates here (Gives gift) [] filled-fits in
-      record { answer = ap (λ (r : Ran). r.answer) ends ∙ filled-is; leaves = ap (λ (r : Ran). tables r.state) ends }
+      record { answer = ap (λ (r : Ran). r.answer) ends ∙ filled-is; leaves = ap (λ (r : Ran). tables r.state) ends; silent = ap (λ (r : Ran). announced_in r.sends) ends }

@@ -1,5 +1,5 @@
 -- A search of a load, once all items are made.
-use Rattle.std.proofs.Common.{◌≡◌, ℕ, zero, suc, ◌+◌, ◌*◌, ◌%◌, ◌^◌, ◌<◌, ◌≤◌, ◌&&◌, ◌||◌, Bool, true, false, cond, nat_eq, nat_lt, List, [], ◌∷◌, ◌++◌, length, map, filter, Option, Ok, codes, decimal, refl, sym, ap, ◌∙◌, arith}
+use Rattle.std.proofs.Common.{◌≡◌, ℕ, zero, suc, ◌+◌, ◌^◌, ◌<◌, ◌≤◌, ◌&&◌, ◌||◌, Bool, true, false, cond, nat_eq, nat_lt, List, [], ◌∷◌, ◌++◌, length, map, filter, Option, Ok, codes, decimal, refl, sym, ap, ◌∙◌, arith}
 use Rattle.std.specs.List.{AllByRecursion}
 use Rattle.std.proofs.lemmas.Bool.Decides.{nat_tests}
 use Rattle.std.proofs.lemmas.Fmt.{decimal_injective}
@@ -9,7 +9,6 @@ use Rattle.kr_base.specs.Attributes.{is_name}
 use Rattle.attribute_match.specs.Match.{matches}
 use Rattle.keyring_file.specs.Clear.{ClearPart}
 use Rattle.connection_worker.specs.service_events.specs.service_tables.specs.keyring_seal.specs.Arranged.{Row, row_number}
-use Rattle.connection_worker.specs.service_events.specs.secret_calls.specs.declared.out.Body.{Body}
 use Rattle.connection_worker.specs.service_events.specs.secret_calls.specs.declared.out.Body.TheVariants as body
 use Rattle.connection_worker.specs.service_events.specs.alias_table.specs.Table.{AliasRows}
 use Rattle.prompt_state.specs.declared.row.Prompts.{Prompts}
@@ -21,6 +20,7 @@ use Rattle.connection_worker.specs.service_events.specs.PublicBody as public
 use Rattle.connection_worker.specs.service_events.specs.Plan.{Returns}
 use Rattle.connection_worker.specs.service_events.specs.Run.{Ran}
 use Rattle.connection_worker.specs.service_events.specs.Step.{brought_with}
+use Rattle.connection_worker.specs.Fitting.{announced_in}
 use Rattle.load_plan.specs.Plan.{attributes_of, search, the_name}
 use Rattle.load_plan.specs.Words.{group_of}
 use Rattle.load_laws.proofs.CreateLemmas.{collection_of, tables_with}
@@ -154,4 +154,4 @@ module _ (seed group now : ℕ) (salt : List ℕ) (fates : List Fate) (connectio
       found-fits paths (found-short seed group 0 rows (omega (arith, few)) items) (omega (arith, few, found-many seed group 0 rows fits items, hits-few seed group 0 (length rows))) in
       let ends =
       run-ends (brought_with now (Ok (search group))) fates (with_tables connections (tables_with prompts aliases used (collection_of image front key vector rows))) (Returns (public.Found paths [])) [] small in
-      record { answer = ap (λ (r : Ran). r.answer) ends; leaves = ap (λ (r : Ran). tables r.state) ends }
+      record { answer = ap (λ (r : Ran). r.answer) ends; leaves = ap (λ (r : Ran). tables r.state) ends; silent = ap (λ (r : Ran). announced_in r.sends) ends }

@@ -1,5 +1,5 @@
 -- What the client of a load sends, as the service reads it.
-use Rattle.std.proofs.Common.{◌≡◌, ◌≢◌, ℕ, zero, suc, ◌+◌, ◌*◌, ◌/◌, ◌%◌, ◌^◌, ◌<◌, ◌≤◌, ◌==◌, get_or, Bool, true, false, cond, List, [], ◌∷◌, ◌++◌, length, Ok, codes, refl, sym, ap, ◌∙◌, arith, length-append, append_assoc, append-nil}
+use Rattle.std.proofs.Common.{◌≡◌, ℕ, zero, suc, ◌+◌, ◌*◌, ◌/◌, ◌%◌, ◌^◌, ◌<◌, ◌≤◌, ◌==◌, get_or, Bool, true, false, cond, List, [], ◌∷◌, ◌++◌, length, Ok, codes, refl, sym, ap, ◌∙◌, arith, length-append, append_assoc, append-nil, subst}
 use Rattle.std.specs.List.{AllByRecursion, concat}
 use Rattle.hex.specs.Hex.{encode_lower, encode_with, lower_digits}
 use Rattle.dbus_auth.specs.Answers.{ok_line}
@@ -7,9 +7,9 @@ use Rattle.dbus_auth.specs.Handshake.{handshake, opened}
 use Rattle.dbus_auth.proofs.HandshakeLemmas.{handshake-append}
 use Rattle.dbus_auth_client.specs.Openings.{auth_line, begin_line}
 use Rattle.dbus_auth_client.proofs.ServerLemmas.{begun}
-use Rattle.dbus_framing.specs.Messages.{IsMessage}
+use Rattle.dbus_framing.specs.Messages.{IsMessage, Parts}
 use Rattle.dbus_framing.specs.Streams.{Stream}
-use Rattle.dbus_framing.proofs.Cuts.{cut_none, cut_one, few_begin, stream_then}
+use Rattle.dbus_framing.proofs.Cuts.{answers_begin, cut_none, cut_one, few_begin, stream_then}
 use Rattle.connection_worker.specs.service_events.specs.secret_calls.specs.declared.call.Call.{Call}
 use Rattle.connection_worker.specs.service_events.specs.secret_calls.specs.declared.call.Request.{Request}
 use Rattle.connection_worker.specs.call_wire.specs.CallOf.{CallOf}
@@ -17,13 +17,13 @@ use Rattle.client_core.specs.Asked.{most_bytes, said, spelled}
 use Rattle.client_core.specs.Askable.{CanBeAsked}
 use Rattle.dbus_sending.specs.Sent.{IsSerial}
 use Rattle.connection_worker.specs.service_events.specs.Single.{TimedRequest, requests_of}
-use Rattle.connection_worker.specs.Arrivals.{AreRequests, calls_in}
+use Rattle.connection_worker.specs.Arrivals.{AreRequests, FirstRequests, calls_in}
 use Rattle.load_plan.specs.Answered.{behind_line}
 use Rattle.load_plan.specs.Plan.{plan}
 use Rattle.load_plan.specs.Sending.{conversation, sent, sent_from}
 use Rattle.load_plan.proofs.PlanLemmas.{plan-length}
 use Rattle.load_plan.proofs.SendingLemmas.{sent-whole}
-use Rattle.load_laws.specs.Requests.{AreAsked, said_from}
+use Rattle.load_laws.specs.Requests.{AreAsked, AreFirstAsked, said_from}
 use Rattle.load_laws.proofs.AskedLemmas.{IsSmall, plan-can, plan-small}
 
 -- ---- the handshake
@@ -77,10 +77,38 @@ requests-are reads (it ∷ calls) (a ∷ more) serial can are =
     let is = reads serial it a.request can.0 are.0 in
     (record { call_is = is.0; serial_is = is.1; wants = is.2 }, requests-are reads calls more (suc serial) can.1 are.1)
 
+-- the heads of two lists that are the same
+same-head : (one other : Parts) (ones others : List Parts) → one ∷ ones ≡ other ∷ others → one ≡ other
+same-head one other ones others e = cc
+
+same-rest : (one other : Parts) (ones others : List Parts) → one ∷ ones ≡ other ∷ others → ones ≡ others
+same-rest one other ones others e = cc
+
+-- the requests of the first messages are those of the first calls
+first-are : ReadsCalls → (calls : List Call) (messages further : List Parts) (asked : List TimedRequest) (more : List Request) (serial : ℕ) → AllByRecursion CanBeAsked calls
+    → said_from serial calls ≡ messages ++ further → AreRequests (calls_in messages) (requests_of asked ++ more) → AreFirstAsked serial calls asked
+first-are reads calls messages further [] more serial can same are = tt
+first-are reads calls [] further (a ∷ rest) more serial can same are = absurd are
+first-are reads [] (parts ∷ messages) further (a ∷ rest) more serial can same are = absurd (let no : [] ≡ parts ∷ (messages ++ further) = same in cc)
+first-are reads (it ∷ calls) (parts ∷ messages) further (a ∷ rest) more serial can same are =
+    let here : parts ≡ said it serial = sym (same-head (said it serial) parts (said_from (suc serial) calls) (messages ++ further) same) in
+    let turned = subst (λ (p : Parts). AreRequests (calls_in (p ∷ messages)) (a.request ∷ (requests_of rest ++ more))) here are in
+    let is = reads serial it a.request can.0 turned.0 in (
+      record { call_is = is.0; serial_is = is.1; wants = is.2 },
+      first-are reads calls messages further rest more (suc serial) can.1 (same-rest (said it serial) parts (said_from (suc serial) calls) (messages ++ further) same) turned.1,
+    )
+
 -- ---- a whole load
 
 pub load-stream : AsksMessages → (items seed : ℕ) → items ≤ 1000 → Stream most_bytes (sent_from 1 (plan items seed)) (said_from 1 (plan items seed)) []
 load-stream asks items seed few = calls-stream asks (plan items seed) 1 (plan-can items seed few) (plan-small items seed few) (omega arith) (omega (arith, few, plan-length items seed))
+
+-- the requests of the first messages of its bytes
+pub load-first : AsksMessages → ReadsCalls → (items seed : ℕ) (asked : List TimedRequest) → items ≤ 1000 → FirstRequests most_bytes (sent_from 1 (plan items seed)) (requests_of asked)
+    → AreFirstAsked 1 (plan items seed) asked
+load-first asks reads items seed asked few first =
+    let begun = answers_begin most_bytes (sent_from 1 (plan items seed)) first.rest [] first.messages (said_from 1 (plan items seed)) first.cut (load-stream asks items seed few) in
+    first-are reads (plan items seed) first.messages begun.0 asked first.more 1 (plan-can items seed few) begun.1 first.are
 
 pub load-few : (items seed : ℕ) → items ≤ 1000 → length (sent_from 1 (plan items seed)) ≤ 2112880640
 load-few items seed few = omega (arith, few, plan-length items seed, calls-few (plan items seed) 1 (plan-small items seed few))

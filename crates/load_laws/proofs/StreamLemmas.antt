@@ -1,6 +1,7 @@
 -- What the service writes for a load, as a client reads it.
-use Rattle.std.proofs.Common.{◌≡◌, ◌≢◌, ℕ, ◌+◌, ◌%◌, ◌<◌, ◌≤◌, Bool, true, false, cond, List, [], ◌∷◌, ◌++◌, filter, Option, Some, None, Ok, refl, sym, ap, ◌∙◌, subst, arith}
+use Rattle.std.proofs.Common.{◌≡◌, ℕ, ◌+◌, ◌≤◌, Bool, true, false, cond, List, [], ◌∷◌, ◌++◌, filter, Option, Some, None, Ok, refl, sym, ap, ◌∙◌, subst, arith}
 use Rattle.std.specs.List.{AllByRecursion}
+use Rattle.std.proofs.lemmas.List.Sums.{sum_by-cons}
 use Rattle.kr_base.specs.declared.ids.ConnId.{ConnId}
 use Rattle.dbus_framing.specs.Messages.{IsMessage, Parts}
 use Rattle.dbus_framing.specs.Streams.{Stream, is_kept}
@@ -16,15 +17,16 @@ use Rattle.connection_worker.specs.service_events.specs.secret_calls.proofs.Size
 use Rattle.connection_worker.specs.call_wire.specs.Said.{IsSendable, said}
 use Rattle.client_core.specs.declared.reply.Reply.TheVariants as reply
 use Rattle.client_core.specs.Replies.{HasNumbers, reply_in, shape_in, shape_of}
-use Rattle.connection_worker.specs.service_events.specs.service_tables.specs.Connections.{sent_to, size_of}
-use Rattle.connection_worker.specs.service_events.specs.service_tables.specs.Sent.{Sent, is_for}
-use Rattle.connection_worker.specs.service_events.specs.service_tables.specs.Sound.{CanWait, IsSound}
+use Rattle.connection_worker.specs.service_events.specs.service_tables.specs.Connections.{sent_to, size_of, size_waiting}
+use Rattle.connection_worker.specs.service_events.specs.service_tables.specs.Sent.{Everyone, One, Recipient, Sent, is_for}
+use Rattle.connection_worker.specs.service_events.specs.service_tables.specs.Sound.{CanWait, CanWaitFor, IsSound}
 use Rattle.connection_worker.specs.service_events.specs.service_tables.specs.State.{State}
 use Rattle.connection_worker.specs.service_events.specs.service_tables.proofs.EachLemmas.{each-append}
 use Rattle.connection_worker.specs.service_events.specs.Replay.{replay, Legal}
 use Rattle.connection_worker.specs.service_events.specs.Step.{puts_out}
 use Rattle.connection_worker.specs.service_events.specs.Single.{TimedKey, TimedRequest, arrival, asking, derivation, finishing, turn, turns, work_for}
 use Rattle.connection_worker.specs.service_events.proofs.SoundLemmas.{sound_replay, waits_step}
+use Rattle.connection_worker.specs.Fitting.{CanWaitTogether, FitTogether}
 use Rattle.connection_worker.specs.Replies.{is_reply, key_outputs, outputs_of, outputs_to}
 use Rattle.connection_worker.specs.Written.{serial_behind, spelled_behind}
 use Rattle.load_plan.specs.declared.counts.Counts.{Counts}
@@ -40,33 +42,42 @@ pub record CanGo (it : Out) : Type 0 where
   pub spelled : HasSpelling it
   pub small : size_of it ≤ most_waiting
 
-go-to : (conn : ConnId) (sent : List Sent) → AllByRecursion CanWait sent → AllByRecursion CanGo (sent_to conn sent)
-go-to conn [] wait = tt
-go-to conn (one ∷ more) wait =
-    let rest = go-to conn more wait.1 in
-    let pass : (b : Bool) → AllByRecursion CanGo (cond b (one.out ∷ sent_to conn more) (sent_to conn more)) =
-    elim [ true ↦ (record { spelled = wait.0.spelled; small = wait.0.small }, rest) | false ↦ rest ] in
-    pass (is_for one.to conn)
+can-go : (to : Recipient) (it : Out) → CanWaitFor to it → size_of it ≤ most_waiting → CanGo it
+can-go (One conn) it is small = record { spelled = is.spelled; small = small }
+can-go Everyone it is small = record { spelled = is small; small = small }
 
-key-go : (conn : ConnId) (state : State) (work : Option Work) (key : Option TimedKey) → IsSound state → Legal state (finishing conn state work key) → AllByRecursion CanGo (key_outputs conn state work key)
-key-go conn state None key sound legal = tt
-key-go conn state (Some work) None sound legal = tt
-key-go conn state (Some work) (Some key) sound legal = go-to conn (puts_out state (derivation conn work key)) (waits_step state (derivation conn work key) sound legal.0)
+-- what can wait together for the connection can
+go-to : (conn : ConnId) (sent : List Sent) → AllByRecursion CanWait sent → CanWaitTogether (sent_to conn sent) → AllByRecursion CanGo (sent_to conn sent)
+go-to conn [] wait few = tt
+go-to conn (one ∷ more) wait few =
+    let rest = sent_to conn more in
+    let pass : (b : Bool) → size_waiting (cond b (one.out ∷ rest) rest) ≤ most_waiting → AllByRecursion CanGo (cond b (one.out ∷ rest) rest) =
+    elim [
+      | true ↦ λ most. (can-go one.to one.out wait.0 (omega (arith, most, sum_by-cons size_of one.out rest)), go-to conn more wait.1 (omega (arith, most, sum_by-cons size_of one.out rest)))
+      | false ↦ λ most. go-to conn more wait.1 most
+    ] in
+    pass (is_for one.to conn) few
+
+key-go : (conn : ConnId) (state : State) (work : Option Work) (key : Option TimedKey) → IsSound state → Legal state (finishing conn state work key) → CanWaitTogether (key_outputs conn state work key)
+    → AllByRecursion CanGo (key_outputs conn state work key)
+key-go conn state None key sound legal few = tt
+key-go conn state (Some work) None sound legal few = tt
+key-go conn state (Some work) (Some key) sound legal few = go-to conn (puts_out state (derivation conn work key)) (waits_step state (derivation conn work key) sound legal.0) few
 
 -- what requests give can
-pub outputs-go : (conn : ConnId) (asked : List TimedRequest) (state : State) → IsSound state → Legal state (turns conn state asked) → AllByRecursion CanGo (outputs_to conn state asked)
-outputs-go conn [] state sound legal = tt
-outputs-go conn (a ∷ more) state sound legal =
+pub outputs-go : (conn : ConnId) (asked : List TimedRequest) (state : State) → IsSound state → Legal state (turns conn state asked) → FitTogether conn state asked → AllByRecursion CanGo (outputs_to conn state asked)
+outputs-go conn [] state sound legal fit = tt
+outputs-go conn (a ∷ more) state sound legal fit =
     let now = turn conn state a in
     let next = replay state now in
     let asks = asking conn state a in
     let here = replay state asks in
     let first : Legal state now = legal-front state now (turns conn next more) legal in
     let ends = finishing conn here (work_for conn state a) a.key in
-    let one = go-to conn (puts_out state (arrival conn a)) (waits_step state (arrival conn a) sound first.0) in
-    let two = key-go conn here (work_for conn state a) a.key (sound_replay state asks sound (legal-front state asks ends first)) (legal-behind state asks ends first) in
+    let one = go-to conn (puts_out state (arrival conn a)) (waits_step state (arrival conn a) sound first.0) fit.0 in
+    let two = key-go conn here (work_for conn state a) a.key (sound_replay state asks sound (legal-front state asks ends first)) (legal-behind state asks ends first) fit.1 in
     each-append CanGo (outputs_of conn state a) (outputs_to conn next more) (each-append CanGo (sent_to conn (puts_out state (arrival conn a))) (key_outputs conn here (work_for conn state a) a.key) one two)
-    (outputs-go conn more next (sound_replay state now sound first) (legal-behind state now (turns conn next more) legal))
+    (outputs-go conn more next (sound_replay state now sound first) (legal-behind state now (turns conn next more) legal) fit.2)
 
 -- ---- the stream of them
 

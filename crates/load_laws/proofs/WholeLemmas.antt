@@ -1,12 +1,14 @@
 -- What is counted over the replies to all calls of a load.
-use Rattle.std.proofs.Common.{◌≡◌, ℕ, zero, suc, ◌+◌, ◌<◌, ◌≤◌, List, [], ◌∷◌, ◌++◌, length, Some, slice_get, refl, sym, ap, ◌∙◌, subst, arith, length-append, append_assoc}
+use Rattle.std.proofs.Common.{◌≡◌, ℕ, zero, suc, ◌+◌, ◌≤◌, List, [], ◌∷◌, ◌++◌, length, Some, slice_get, refl, sym, ap, ◌∙◌, subst, arith, length-append, append_assoc}
 use Rattle.connection_worker.specs.service_events.specs.service_tables.specs.keyring_seal.specs.Arranged.{Row}
 use Rattle.connection_worker.specs.service_events.specs.secret_calls.specs.declared.call.Call.{Call}
-use Rattle.connection_worker.specs.service_events.specs.secret_calls.specs.declared.call.Call.TheVariants as call
 use Rattle.prompt_state.specs.Prompts.{no_prompts}
-use Rattle.connection_worker.specs.service_events.specs.service_tables.specs.Opened.{Contents}
+use Rattle.connection_worker.specs.service_events.specs.service_tables.specs.Opened.{Contents, opened_state}
+use Rattle.connection_worker.specs.service_events.specs.service_tables.specs.Sound.{AreSoundContents, IsSound}
 use Rattle.connection_worker.specs.service_events.specs.service_tables.specs.State.{State}
+use Rattle.connection_worker.specs.service_events.specs.declared.event.Event.TheVariants as event
 use Rattle.connection_worker.specs.service_events.specs.Replay.{Legal}
+use Rattle.connection_worker.specs.service_events.proofs.SoundLemmas.{sound_start, sound_step}
 use Rattle.connection_worker.specs.service_events.specs.Single.{AllFaultless, AllFinished, TimedRequest, turns}
 use Rattle.load_plan.specs.declared.counts.Counts.{Counts}
 use Rattle.load_plan.specs.Counts.{none}
@@ -29,10 +31,10 @@ first-made f zero = refl
 first-made f (suc n) = (λ i. first-made f n i ++ f (let e : n ≡ 0 + n = omega arith in e i) ∷ []) ∙ made-more f 0 n
 
 -- the calls after the opening
-abbrev behind : ℕ → ℕ → List Call
+abbrev pub behind : ℕ → ℕ → List Call
 behind items seed = made (create seed) 0 items ++ (made search 0 10 ++ made read 0 items)
 
-plan-made : (items seed : ℕ) → plan items seed ≡ opening ++ behind items seed
+pub plan-made : (items seed : ℕ) → plan items seed ≡ opening ++ behind items seed
 plan-made items seed = λ i. opening ++ (first-made (create seed) items i ++ (first-made search 10 i ++ first-made read items i))
 
 got : (before : List Call) (it : Call) (calls : List Call) → slice_get (before ++ it ∷ calls) (length before) ≡ Some it
@@ -51,8 +53,12 @@ has-from before (it ∷ calls) serial is = (
 
 -- ---- the start
 
-tables-start : (contents : Contents) → contents.collections ≡ [] → contents.used ≡ [] → tables (started contents) ≡ opening_tables contents.aliases [] no_prompts []
+pub tables-start : (contents : Contents) → contents.collections ≡ [] → contents.used ≡ [] → tables (started contents) ≡ opening_tables contents.aliases [] no_prompts []
 tables-start contents none unused = λ i. opening_tables contents.aliases (unused i) no_prompts (none i)
+
+-- it is sound
+pub sound-started : (contents : Contents) → AreSoundContents contents → IsSound (started contents)
+sound-started contents sound = sound_step (opened_state contents) (event.Connect the_connection) (sound_start contents sound) (refl, omega arith, omega arith)
 
 -- ---- all calls
 

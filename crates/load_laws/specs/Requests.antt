@@ -24,6 +24,12 @@ AreAsked serial (call ∷ calls) (asked ∷ more) = IsAsked call serial asked ×
 AreAsked serial [] (asked ∷ more) = ⊥
 AreAsked serial (call ∷ calls) [] = ⊥
 
+-- the requests are the first of these calls, and perhaps all of them
+abbrev pub AreFirstAsked : ℕ → List Call → List TimedRequest → Type 0
+AreFirstAsked serial calls [] = Unit {0}
+AreFirstAsked serial [] (asked ∷ more) = ⊥
+AreFirstAsked serial (call ∷ calls) (asked ∷ more) = IsAsked call serial asked × AreFirstAsked (suc serial) calls more
+
 -- the calls with serials from this one on are these
 abbrev pub HasFrom : List Call → ℕ → List Call → Type 0
 HasFrom all serial [] = Unit {0}

@@ -10,24 +10,25 @@ ghost use Rattle.connection_worker.specs.service_events.specs.service_tables.spe
 ghost use Rattle.connection_worker.specs.service_events.specs.service_tables.specs.Sound.{AreSoundContents};
 ghost use Rattle.connection_worker.specs.service_events.specs.service_tables.specs.State.{State};
 ghost use Rattle.connection_worker.specs.service_events.specs.Replay.{Legal};
-ghost use Rattle.connection_worker.specs.service_events.specs.Single.{AllFaultless, AllFinished, TimedRequest, requests_of, turns};
+ghost use Rattle.connection_worker.specs.service_events.specs.Single.{AllFaultless, AllFinished, AreFinished, TimedRequest, requests_of, turns};
 ghost use Rattle.connection_worker.specs.Arrivals.{AreRequests, FirstRequests, calls_in};
+ghost use Rattle.connection_worker.specs.Fitting.{FitTogether};
 ghost use Rattle.connection_worker.specs.Replies.{outputs_to};
 ghost use Rattle.connection_worker.specs.Written.{spelled_behind};
 ghost use Rattle.load_plan.specs.declared.counts.Counts.{Counts};
 ghost use Rattle.load_plan.specs.Answered.{CountsMessages};
 ghost use Rattle.load_plan.specs.Plan.{plan};
 ghost use Rattle.load_plan.specs.Sending.{conversation, sent_from};
-ghost use Rattle.load_laws.specs.Requests.{AreAsked, said_from, the_connection};
+ghost use Rattle.load_laws.specs.Requests.{AreAsked, AreFirstAsked, said_from, the_connection};
 ghost use Rattle.load_laws.specs.Outputs.{all_counted, started};
 
 use client_core::{a_call_is_read_again, what_the_service_sends_is_read_again};
 use connection_worker::call_wire::what_is_sent_is_read_again;
-use connection_worker::each_request_has_one_reply;
+use connection_worker::{each_request_has_one_reply, short_announcements_fit};
 
-/// What the client of a load sends is read as its calls: its handshake is open and is answered with OK alone; behind it
+/// What the client of a load sends is read as its calls: its handshake is open and is answered with OK alone; after it
 /// are the messages of all calls, each whole, and nothing else; and requests that are those of these messages are the
-/// calls, in order, with serials from 1 on, and want replies.
+/// calls, in order, with serials from 1 on, and want replies, and those of the first messages are the first of the calls.
 pub fn a_load_is_read_whole()
     ensures opened { (uid items seed : ℕ) (guid : List ℕ) → uid < 2 ^ 32
         → handshake uid guid (conversation uid (plan items seed)) ≡ record {
@@ -39,6 +40,9 @@ pub fn a_load_is_read_whole()
     ensures requests { (items seed : ℕ) (asked : List TimedRequest) → items ≤ 1000
         → AreRequests (calls_in (said_from 1 (plan items seed))) (requests_of asked)
         → AreAsked 1 (plan items seed) asked }
+    ensures first { (items seed : ℕ) (asked : List TimedRequest) → items ≤ 1000
+        → FirstRequests most_bytes (sent_from 1 (plan items seed)) (requests_of asked)
+        → AreFirstAsked 1 (plan items seed) asked }
 {
     a_call_is_read_again();
 }
@@ -53,6 +57,19 @@ pub fn a_load_has_few_events()
     ensures events { (conn : ConnId) (state : State) (asked : List TimedRequest)
         → length (turns conn state asked) ≤ 4 * length asked }
 {}
+
+/// A load loses no output: over a service that starts with no collection and no used stem, whose disk doesn't fail, what each
+/// of its first requests and of their keys puts out for its connection can wait together.
+pub fn a_load_loses_no_output()
+    ensures { (items seed : ℕ) (contents : Contents) (asked : List TimedRequest)
+        → items ≤ 1000 → AreSoundContents contents → contents.collections ≡ []
+        → contents.used ≡ [] → AreFirstAsked 1 (plan items seed) asked
+        → Legal (started contents) (turns the_connection (started contents) asked)
+        → AllFaultless asked → AreFinished the_connection (started contents) asked
+        → FitTogether the_connection (started contents) asked }
+{
+    short_announcements_fit();
+}
 
 /// Over a service that starts with no collection and no used stem, whose disk doesn't fail, a load of up to 1,000
 /// items counts all of them, as made, as found and as read, and no error: so it is for the counts over all complete
@@ -71,4 +88,5 @@ pub fn a_load_counts_all()
     what_the_service_sends_is_read_again();
     what_is_sent_is_read_again();
     each_request_has_one_reply();
+    short_announcements_fit();
 }

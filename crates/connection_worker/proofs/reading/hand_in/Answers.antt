@@ -1,5 +1,4 @@
-use Rattle.std.proofs.Common.{None, Some, subst}
-use Rattle.service_desk.specs.secret_calls.specs.Works.{finished}
+use Rattle.std.proofs.Common.{subst}
 use Rattle.service_desk.specs.service_events.specs.declared.event.Arrival.{Arrival}
 use Rattle.service_desk.specs.Calls.{Arrives, Finishes}
 use Rattle.service_desk.specs.Places.{place}

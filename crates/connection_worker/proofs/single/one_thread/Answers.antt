@@ -2,7 +2,7 @@ use Rattle.std.proofs.Common.{◌∙◌}
 use Rattle.service_desk.specs.Places.{place}
 use Rattle.connection_worker.specs.Streams.{input_of, output_of}
 use Rattle.connection_worker.specs.Serving.{world}
-use Rattle.connection_worker.proofs.SingleLemmas.{joined-idle, goes-alone, served-behind, served-not}
+use Rattle.connection_worker.proofs.SingleLemmas.{joined-idle, joined-owed, goes-alone, served-behind, served-not}
 use Rattle.connection_worker.proofs.single.one_thread.Goals as goal
 
 -- the handshake wasn't open
@@ -18,7 +18,7 @@ returns-in-Err g c =
 
 -- nothing waits for a connection that has just joined
 pub serve-end-requires-clause-idle : goal.serve-end-requires-clause-idle
-serve-end-requires-clause-idle g c = joined-idle _ c.requires.joined c.requires.sound
+serve-end-requires-clause-idle g c = joined-owed _ c.requires.joined c.requires.sound
 
 pub serve-end-requires-clause-most : goal.serve-end-requires-clause-most
 serve-end-requires-clause-most g c = c.in-Ok.ensures.ends.1

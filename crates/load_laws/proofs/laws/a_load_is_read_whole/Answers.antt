@@ -1,5 +1,5 @@
 use Rattle.load_plan.specs.Plan.{plan}
-use Rattle.load_laws.proofs.SendLemmas.{load-opens, load-requests, load-stream}
+use Rattle.load_laws.proofs.SendLemmas.{load-first, load-opens, load-requests, load-stream}
 use Rattle.load_laws.proofs.laws.a_load_is_read_whole.Goals as goal
 
 pub returns-clause-opened : goal.returns-clause-opened
@@ -10,3 +10,6 @@ returns-clause-stream c items seed few = load-stream c.a_call_is_read_again.ensu
 
 pub returns-clause-requests : goal.returns-clause-requests
 returns-clause-requests c items seed asked few are = load-requests c.a_call_is_read_again.ensures.call items seed asked few are
+
+pub returns-clause-first : goal.returns-clause-first
+returns-clause-first c items seed asked few first = load-first c.a_call_is_read_again.ensures.message c.a_call_is_read_again.ensures.call items seed asked few first
