@@ -1,13 +1,13 @@
 -- Accepting one link after the other.
-use Rattle.std.specs.Prelude.{◌≡◌, ℕ, ◌+◌, ◌≤◌, min, Bool, IfSome, List, [], ◌∷◌, ◌++◌, length, Option, None, Some}
+use Rattle.std.specs.Prelude.{◌≡◌, ℕ, ◌+◌, ◌*◌, ◌≤◌, min, Bool, IfSome, List, [], ◌∷◌, ◌++◌, length, Option, None, Some}
 use Rattle.std.specs.List.{AllZip, FoldsTo}
 use Rattle.std.specs.Option.{option_map}
-use Rattle.std.proofs.Common.{refl, ap, sym, subst, ◌∙◌, arith, length-append}
-use Rattle.atomic_table.specs.Seated.{TableId}
+use Rattle.std.proofs.Common.{inl, inr, refl, ap, sym, subst, ◌∙◌, arith, length-append}
 use Rattle.kr_base.specs.declared.ids.ConnId.{ConnId}
 use Rattle.dbus_auth.specs.Exchange.{Exchange}
 use Rattle.dbus_auth.specs.Table.{fresh}
-use Rattle.connection_worker.specs.service_desk.specs.Places.{Told}
+use Rattle.connection_worker.specs.service_desk.specs.Calls.{Goes}
+use Rattle.connection_worker.specs.service_desk.specs.Places.{Told, Home, Place}
 use Rattle.connection_worker.specs.service_desk.specs.Views.{View}
 use Rattle.connection_worker.specs.Salts.{Salting}
 use Rattle.daemon.specs.declared.job.Served.{Served}
@@ -81,9 +81,14 @@ none-given None new is = is
 none-given (Some []) new is = is.1
 none-given (Some (report ∷ rest)) new is = let wrong : None ≡ Some report = is.0 in absurd cc
 
+-- a desk that recorded that its connection is gone is of the same service, with the same passes
+pub goes-home : (old new : Place) → Goes old new → new.told.home ≡ old.told.home
+goes-home old new (inl recorded) = recorded.same.home
+goes-home old new (inr none) = none.0.same.home
+
 -- A job over what a hub returned is one of a new connection.
 pub is-job : {A B C I O : Type 0} (read_told : A → Told) (read_seen : A → View → Type 0) (write_told : B → Told) (write_seen : B → View → Type 0) (uid then_uid : ℕ)
-    (guid then_guid seed then_seed : List ℕ) (home then_home : Option TableId) (conn : ConnId) (auth : Exchange) (salting : Salting) (clock : C) (reader : A) (writer : B) (input : I) (output : O)
+    (guid then_guid seed then_seed : List ℕ) (home then_home : Option Home) (conn : ConnId) (auth : Exchange) (salting : Salting) (clock : C) (reader : A) (writer : B) (input : I) (output : O)
     (old mid new : View) → Joins old conn mid → IsDeskOf (read_told reader) (read_seen reader) then_home conn mid → IsDeskOf (write_told writer) (write_seen writer) then_home conn mid
     → auth ≡ fresh then_uid then_guid → salting ≡ salts_of then_seed conn → then_uid ≡ uid → then_guid ≡ guid → then_seed ≡ seed → then_home ≡ home → new ≡ mid
     → IsJobOf read_told read_seen write_told write_seen uid guid seed home
@@ -114,12 +119,12 @@ pub room-kept : (len room had has more : ℕ) → len + more ≤ room → more �
 room-kept len room had has more fits is few = omega arith
 
 -- the state of a hub and a spawner, after the spawner finished its jobs
-pub world-finished : {J : Type 0} (view : View) (unjoined : ℕ) (listening : Listening) (old new : Spawning J) → new ≡ record old { started = [] }
-    → ◌≡◌ {A = World J} (record { standing = record { view = view; unjoined = unjoined; started = new.started; unstarted = new.unstarted }; listening = listening })
-    (record { standing = record { view = view; unjoined = unjoined; started = []; unstarted = old.unstarted }; listening = listening })
-world-finished view unjoined listening old new is = rw is refl
+pub world-finished : {J : Type 0} (view : View) (lent unjoined : ℕ) (listening : Listening) (old new : Spawning J) → new ≡ record old { started = [] }
+    → ◌≡◌ {A = World J} (record { standing = record { view = view; lent = lent; unjoined = unjoined; started = new.started; unstarted = new.unstarted }; listening = listening })
+    (record { standing = record { view = view; lent = lent; unjoined = unjoined; started = []; unstarted = old.unstarted }; listening = listening })
+world-finished view lent unjoined listening old new is = rw is refl
 
-module _ {A B C I O : Type 0} (read_told : A → Told) (read_seen : A → View → Type 0) (write_told : B → Told) (write_seen : B → View → Type 0) (left : I → Option (List ℕ)) (in_faults : I → ℕ) (in_steady in_closed : I → Bool) (written : O → Option (List ℕ)) (out_faults : O → ℕ) (out_steady out_closed : O → Bool) (uid : ℕ) (guid seed : List ℕ) (home : Option TableId) where
+module _ {A B C I O : Type 0} (read_told : A → Told) (read_seen : A → View → Type 0) (write_told : B → Told) (write_seen : B → View → Type 0) (left : I → Option (List ℕ)) (in_faults : I → ℕ) (in_steady in_closed : I → Bool) (written : O → Option (List ℕ)) (out_faults : O → ℕ) (out_steady out_closed : O → Bool) (uid : ℕ) (guid seed : List ℕ) (home : Option Home) where
   abbrev Step : World (Job A B C I O) → Round A B C I O → World (Job A B C I O) → Type 0
   Step old round new = IsRound read_told read_seen write_told write_seen left in_faults in_steady in_closed written out_faults out_steady out_closed uid guid seed home old round new
 
@@ -141,6 +146,27 @@ module _ {A B C I O : Type 0} (read_told : A → Told) (read_seen : A → View �
   all-more old new (round ∷ rounds) (mid, step, run) =
       let one = one-more old mid round step in
       let rest = all-more mid new rounds run in
+      omega arith
+
+  -- the hub has handed out two desks more with each job that was started
+  lent-step : (old new : World (Job A B C I O)) (round : Round A B C I O) → Step old round new
+      → new.standing.lent + 2 * length old.standing.started ≡ old.standing.lent + 2 * length new.standing.started
+  lent-step old new (Unjoined why input output) step =
+      let same = ap (λ (js : List (Job A B C I O)). length js) step.admitted.started in let lent = step.admitted.lent in omega arith
+  lent-step old new (Unstarted job gone) step =
+      let same = ap (λ (js : List (Job A B C I O)). length js) step.admitted.started in let lent = step.admitted.lent in omega arith
+  lent-step old new (Started job) step =
+      let more = ap (λ (js : List (Job A B C I O)). length js) step.admitted.started in
+      let lent = step.admitted.lent in omega (arith, length-append old.standing.started (job ∷ []))
+
+  lent-all : (old new : World (Job A B C I O)) (rounds : List (Round A B C I O)) → FoldsTo Step old rounds new
+      → new.standing.lent + 2 * length old.standing.started ≡ old.standing.lent + 2 * length new.standing.started
+  lent-all old new [] run =
+      let same = ap (λ (w : World (Job A B C I O)). length w.standing.started) run in
+      let lent = ap (λ (w : World (Job A B C I O)). w.standing.lent) run in omega arith
+  lent-all old new (round ∷ rounds) (mid, step, run) =
+      let one = lent-step old mid round step in
+      let rest = lent-all mid new rounds run in
       omega arith
 
   given-step : (old new : World (Job A B C I O)) (round : Round A B C I O) → Step old round new → old.listening.given ≤ last_count
@@ -182,6 +208,7 @@ module _ {A B C I O : Type 0} (read_told : A → Told) (read_seen : A → View �
         appended = finishes.appended ∙ ap (λ (d : List (Served A B I O)). d ++ finishes.results) same;
         few = links.few;
         why = links.why;
+        lent = (let lent = lent-all old last links.rounds links.run in let is = ap (λ (w : World (Job A B C I O)). w.standing.lent) new_is in omega arith);
         links = omega arith;
         given = λ below. ap (λ (w : World (Job A B C I O)). w.listening.given) new_is
             ∙ (rises Step (λ w. w.listening.given) (λ round. 1) given-step old last links.rounds links.run below

@@ -15,7 +15,7 @@ use Rattle.connection_worker.specs.Streams.{Input, Output, input_of, output_of}
 use Rattle.connection_worker.specs.Writing.{WriterEnds}
 use Rattle.daemon.specs.declared.job.Served.{Served}
 
--- what contracts see of a job: all that the serving of a link needs
+-- what contracts see of a job: all that is needed to serve a link
 pub record Job (A B C I O : Type 0) : Type 0 where
   -- the connection
   pub conn : ConnId

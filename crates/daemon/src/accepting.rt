@@ -1,18 +1,16 @@
-ghost use Rattle.std.specs.Prelude.{◌≡◌, ◌+◌, ◌≤◌, ◌<◌, [], length, IfSome, IfOk, IfErr, IsFalse, vec_len, vec_capacity};
+ghost use Rattle.std.specs.Prelude.{◌≡◌, ◌+◌, ◌-◌, ◌≤◌, ◌<◌, [], length, IfSome, IfOk, IfErr, IsFalse, vec_len, vec_capacity};
 ghost use Rattle.std.specs.Option.{option_map};
 ghost use Rattle.kr_outside.specs.Faults.{KeepsSteady};
-ghost use Rattle.connection_worker.specs.service_desk.specs.Calls.{Goes};
-ghost use Rattle.connection_worker.specs.service_desk.specs.Places.{place};
-ghost use Rattle.daemon.specs.Accepts.{standing, listening, Admits, AcceptsOne, Accepts, AcceptsLinks, FinishesAll, IsJobOf, Rounds};
-ghost use Rattle.daemon.specs.Hubs.{CountsRefused, IsNotJoined, IsSameHub};
+ghost use Rattle.daemon.specs.Accepts.{standing, listening, IsTurnedAway, Admits, AcceptsOne, Accepts, AcceptsLinks, FinishesAll, IsHungUp, IsJobOf, Rounds};
+ghost use Rattle.daemon.specs.Hubs.{CountsRefused, IsNotJoined, IsSameHub, Lends};
 ghost use Rattle.daemon.specs.Jobs.{Serves};
 
 use crate::hub::Hub;
 use crate::job::{LinkJob, Served, Serving, let_go};
 use crate::spawner::ServingSpawner;
 use crate::started::StartRefused;
-use connection_worker::service_desk::{JoinRefused, ReadDesk, WriteDesk};
-use kr_outside::{Clock, Failed, Link, Listener, Sink, Source};
+use connection_worker::service_desk::JoinRefused;
+use kr_outside::{Failed, Link, Listener, Sink, Source};
 use std::alloc::AllocGlobal;
 use std::sync::Wait;
 use std::thread::Threads;
@@ -30,37 +28,42 @@ pub enum LoopEnd {
     Memory,
 }
 
-/// What the serving of a listener's link to a hub's connection resulted in.
+/// What serving a listener's link as a connection of a hub resulted in.
 pub type ServedBy<U: Hub, L: Listener> = Served<U::Reader, U::Writer, L::In, L::Out>;
 
 // Closes both ends of a link that isn't served, so that the other side sees its end.
-fn hang_up<I: Source + Drop, O: Sink + Drop>(input: I, output: O) {
+fn hang_up<I: Source + Drop, O: Sink + Drop>(input: I, output: O)
+    ensures { IsHungUp I.left I.faults I.is_steady I.is_closed
+        O.written O.faults O.is_steady O.is_closed input output }
+{
     let mut input = input;
     let mut output = output;
     input.close();
     output.close();
 }
 
-// Records that the connection of a job is gone, closes its link, and drops the rest of the job. Returns the writer's
-// desk.
-fn turn_away<
-    R: Drop,
-    A: ReadDesk + Drop,
-    B: WriteDesk + Drop,
-    C: Clock,
-    I: Source + Drop,
-    O: Sink + Drop,
->(job: LinkJob<R, A, B, C, I, O>) -> B
-    ensures { Goes (place B.told B.has_seen job.writer) (place B.told B.has_seen result) }
+// Records that the connection of a job is gone, closes its link, and hands its desks back to the hub.
+fn turn_away<R: Drop, U: Hub, L: Listener>(hub: &mut U, job: Serving<R, U, L>)
+    requires reader { (U.Reader.told job.reader).home ≡ U.home hub.old }
+    requires writer { (U.Writer.told job.writer).home ≡ U.home hub.old }
+    ensures away { (gone : U.Writer) × IsTurnedAway
+        U.Reader.has_seen U.Writer.told U.Writer.has_seen
+        job gone (U.view hub.old) (U.view hub.new) }
+    ensures hung { IsHungUp L.In.left L.In.faults L.In.is_steady L.In.is_closed
+        L.Out.written L.Out.faults L.Out.is_steady L.Out.is_closed job.input job.output }
+    ensures lent { U.lent hub.new ≡ U.lent hub.old - 2 }
+    ensures counted { U.refused hub.new ≡ U.refused hub.old }
+    ensures hub { IsSameHub U.uid U.guid U.seed U.home hub.old hub.new }
 {
     let LinkJob {
+        reader,
         writer,
         input,
         output,
         ..
     } = job;
     hang_up(input, output);
-    let_go(writer)
+    hub.take_back(reader, let_go(writer));
 }
 
 // What came of waiting for a link.
@@ -89,7 +92,11 @@ fn join_link<R: Copy + Drop, U: Hub, L: Listener>(
     ensures link { IfOk result (λ job. (job.input ≡ link.input) × (job.output ≡ link.output)) }
     ensures refused { IfErr result (λ refused.
         IsNotJoined refused (U.view hub.old) (U.view hub.new)) }
+    ensures hung { IfErr result (λ refused. IsHungUp
+        L.In.left L.In.faults L.In.is_steady L.In.is_closed
+        L.Out.written L.Out.faults L.Out.is_steady L.Out.is_closed link.input link.output) }
     ensures counted { CountsRefused (U.refused hub.old) (U.refused hub.new) result }
+    ensures lent { Lends (U.lent hub.old) (U.lent hub.new) result }
     ensures hub { IsSameHub U.uid U.guid U.seed U.home hub.old hub.new }
 {
     let Link { input, output } = link;
@@ -115,7 +122,7 @@ fn join_link<R: Copy + Drop, U: Hub, L: Listener>(
 }
 
 // Joins the connection of a link, and starts its job. If the connection can't join, the link is closed; if
-// the job can't be started, the link is closed and its connection is gone.
+// the job can't be started, the link is closed, its connection is gone, and the hub has its desks again.
 fn admit<
     R: AllocGlobal + Threads + Wait + Copy + Send + Sync + Drop + 'static,
     U: Hub,
@@ -127,9 +134,11 @@ where
     requires input_open { IsFalse (L.In.is_closed link.input) }
     requires output_open { IsFalse (L.Out.is_closed link.output) }
     ensures admits { Admits U.Reader.told U.Reader.has_seen U.Writer.told U.Writer.has_seen
+        L.In.left L.In.faults L.In.is_steady L.In.is_closed
+        L.Out.written L.Out.faults L.Out.is_steady L.Out.is_closed
         (U.uid hub.old) (U.guid hub.old) (U.seed hub.old) (U.home hub.old) link.input link.output
-        (standing U.view U.refused hub.old spawner.old)
-        (standing U.view U.refused hub.new spawner.new) }
+        (standing U.view U.lent U.refused hub.old spawner.old)
+        (standing U.view U.lent U.refused hub.new spawner.new) }
     ensures hub { IsSameHub U.uid U.guid U.seed U.home hub.old hub.new }
 {
     let Ok(job) = join_link::<R, U, L>(rt, hub, link) else {
@@ -137,8 +146,8 @@ where
     };
     match spawner.start(rt, job) {
         Ok(()) => {}
-        Err(StartRefused::Failed(job)) => drop(turn_away(job)),
-        Err(StartRefused::OutOfMemory(job)) => drop(turn_away(job)),
+        Err(StartRefused::Failed(job)) => turn_away::<R, U, L>(hub, job),
+        Err(StartRefused::OutOfMemory(job)) => turn_away::<R, U, L>(hub, job),
     }
 }
 
@@ -156,11 +165,11 @@ where
         L.Out.written L.Out.faults L.Out.is_steady L.Out.is_closed
         (U.uid hub.old) (U.guid hub.old) (U.seed hub.old) (U.home hub.old)
         (record {
-          standing = standing U.view U.refused hub.old spawner.old;
+          standing = standing U.view U.lent U.refused hub.old spawner.old;
           listening = listening L.coming L.given listener.old;
         })
         (record {
-          standing = standing U.view U.refused hub.new spawner.new;
+          standing = standing U.view U.lent U.refused hub.new spawner.new;
           listening = listening L.coming L.given listener.new;
         })
         (L.faults listener.old) (L.faults listener.new) (L.has_ended listener.new) result }
@@ -214,11 +223,11 @@ where
         L.Out.written L.Out.faults L.Out.is_steady L.Out.is_closed
         (U.uid hub.old) (U.guid hub.old) (U.seed hub.old) (U.home hub.old) most
         (record {
-          standing = standing U.view U.refused hub.old spawner.old;
+          standing = standing U.view U.lent U.refused hub.old spawner.old;
           listening = listening L.coming L.given listener.old;
         })
         (record {
-          standing = standing U.view U.refused hub.new spawner.new;
+          standing = standing U.view U.lent U.refused hub.new spawner.new;
           listening = listening L.coming L.given listener.new;
         })
         (L.faults listener.old) (L.faults listener.new) (L.has_ended listener.new) result }
@@ -275,7 +284,7 @@ where
 /// before each link is accepted.
 ///
 /// A link is closed without being served only if its connection couldn't join, or its job couldn't be
-/// started; then its connection is gone. `Ended` comes only if the listener returned None, `Reached` only if
+/// started; then its connection is gone, and the hub takes back its desks. `Ended` comes only if the listener returned None, `Reached` only if
 /// `most` links were accepted, and `ListenFault` only if the listener's count of faults rose.
 pub fn accept_loop<
     R: AllocGlobal + Threads + Wait + Copy + Send + Sync + Drop + 'static,
@@ -302,11 +311,11 @@ where
         L.In.left L.In.faults L.In.is_steady L.In.is_closed
         L.Out.written L.Out.faults L.Out.is_steady L.Out.is_closed) most
         (record {
-          standing = standing U.view U.refused hub.old spawner.old;
+          standing = standing U.view U.lent U.refused hub.old spawner.old;
           listening = listening L.coming L.given listener.old;
         })
         (record {
-          standing = standing U.view U.refused hub.new spawner.new;
+          standing = standing U.view U.lent U.refused hub.new spawner.new;
           listening = listening L.coming L.given listener.new;
         })
         (L.faults listener.old) (L.faults listener.new) (L.has_ended listener.new)

@@ -1,8 +1,8 @@
-ghost use Rattle.std.specs.Prelude.{◌≡◌, ℕ, Bool, List, Option, IsTrue, OnOk, IfOk, IfErr};
-ghost use Rattle.atomic_table.specs.Seated.{TableId};
+ghost use Rattle.std.specs.Prelude.{◌≡◌, ◌-◌, ℕ, Bool, List, Option, IsTrue, OnOk, IfOk, IfErr};
 ghost use Rattle.dbus_auth.specs.Table.{fresh};
+ghost use Rattle.connection_worker.specs.service_desk.specs.Places.{Home};
 ghost use Rattle.connection_worker.specs.service_desk.specs.Views.{View};
-ghost use Rattle.daemon.specs.Hubs.{Joins, IsDeskOf, IsNotJoined, CountsRefused, salts_of};
+ghost use Rattle.daemon.specs.Hubs.{Joins, IsDeskOf, IsNotJoined, CountsRefused, Lends, TakesBack, salts_of};
 
 use connection_worker::Salts;
 use connection_worker::service_desk::{JoinRefused, ReadDesk, WriteDesk};
@@ -30,11 +30,16 @@ pub trait Hub {
     /// The seed of all salts. No call changes it.
     ghost seed: { Self → List ℕ };
 
-    /// The service whose connections the links become, if threads share it. No call changes it.
-    ghost home: { Self → Option TableId };
+    /// The service whose connections the links become, if threads share it, with the passes that each of their
+    /// desks has. No call changes it.
+    ghost home: { Self → Option Home };
 
-    /// What the hub has seen of the service's history. Its own events are those of the joins.
+    /// What the hub has seen of the service's history. Its own events are those of the joins, and those of the
+    /// desks that it took back.
     ghost view: { Self → View };
+
+    /// How many desks were handed out and not taken back.
+    ghost lent: { Self → ℕ };
 
     /// How many joins were refused. The count never falls, and stays at 2^64 - 1.
     ghost refused: { Self → ℕ };
@@ -59,6 +64,7 @@ pub trait Hub {
         ensures refused { IfErr result (λ refused.
             IsNotJoined refused (view self.old) (view self.new)) }
         ensures counted { CountsRefused (refused self.old) (refused self.new) result }
+        ensures lent { Lends (lent self.old) (lent self.new) result }
         ensures ready { OnOk result (IsTrue (is_ready self.new)) }
 
         ensures uid { uid self.new ≡ uid self.old }
@@ -78,5 +84,21 @@ pub trait Hub {
         ensures seed { seed self.new ≡ seed self.old }
         ensures home { home self.new ≡ home self.old }
         ensures view { view self.new ≡ view self.old }
+        ensures lent { lent self.new ≡ lent self.old }
+        ensures counted { refused self.new ≡ refused self.old };
+
+    /// Takes back the desks of a connection that isn't served: what they have seen and recorded becomes the
+    /// hub's own. The call takes no memory.
+    fn take_back(&mut self, reader: Self::Reader, writer: Self::Writer)
+        requires reader { (Self.Reader.told reader).home ≡ home self.old }
+        requires writer { (Self.Writer.told writer).home ≡ home self.old }
+        ensures back { TakesBack (Self.Reader.has_seen reader) (Self.Writer.has_seen writer)
+            (view self.old) (view self.new) }
+        ensures lent { lent self.new ≡ lent self.old - 2 }
+
+        ensures uid { uid self.new ≡ uid self.old }
+        ensures guid { guid self.new ≡ guid self.old }
+        ensures seed { seed self.new ≡ seed self.old }
+        ensures home { home self.new ≡ home self.old }
         ensures counted { refused self.new ≡ refused self.old };
 }

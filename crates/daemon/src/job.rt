@@ -17,7 +17,7 @@ use std::sync::Wait;
 use std::thread;
 use std::thread::Threads;
 
-/// All that the serving of one link needs. Contracts see its parts, except for the runtime. Its handshake
+/// All that is needed to serve one link. Contracts see its parts, except for the runtime. Its handshake
 /// hasn't begun, both its ends are open, and its writer's desk waits while there is nothing to take.
 #[derive(Drop)]
 pub struct LinkJob<
@@ -81,7 +81,7 @@ impl<
 /// A job over the desks of a hub and the links of a listener.
 pub type Serving<R, U: Hub, L: Listener> = LinkJob<R, U::Reader, U::Writer, U::Time, L::In, L::Out>;
 
-/// What the serving of a link resulted in: both desks, why each side ended, and both ends, closed.
+/// What serving a link resulted in: both desks, why each side ended, and both ends, closed.
 #[derive(Drop)]
 pub struct Served<A, B, I, O> {
     /// The connection.

@@ -204,7 +204,7 @@ impl<
         }
     }
 
-    // The same for each of the jobs with these numbers, of which those that have no thread any more are
+    // The same for each of the jobs with these numbers; the numbers of those that have no thread any more are
     // removed. The first job has the number `first`.
     fn settle_all(
         started: &mut VecDeque<Started<R, A, B, C, I, O>>,

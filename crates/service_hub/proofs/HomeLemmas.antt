@@ -1,10 +1,9 @@
 -- The desks that jobs hand back are of the service that the hub's are of.
 use Rattle.std.proofs.Common.{◌≡◌, ℕ, inl, inr, Bool, List, [], ◌∷◌, Option, Result, Ok, Err, sym, ap, ◌∙◌, subst}
 use Rattle.std.specs.List.{AllByRecursion, AllZip, FoldsTo}
-use Rattle.atomic_table.specs.Seated.{TableId}
 use Rattle.dbus_framing.specs.Framers.{Framing}
 use Rattle.shared_service.specs.service_desk.specs.Calls.{Goes}
-use Rattle.shared_service.specs.service_desk.specs.Places.{Told, Place}
+use Rattle.shared_service.specs.service_desk.specs.Places.{Told, Home, Place}
 use Rattle.shared_service.specs.service_desk.specs.Views.{View}
 use Rattle.shared_service.specs.service_tables.proofs.EachLemmas.{each-append}
 use Rattle.daemon.specs.connection_worker.specs.declared.ending.End.{End}
@@ -13,12 +12,12 @@ use Rattle.daemon.specs.declared.job.Served.{Served}
 use Rattle.daemon.specs.Accepts.{Round, Unjoined, Unstarted, Started, World, IsJobOf, IsRound, Rounds}
 use Rattle.daemon.specs.Jobs.{Job, Serves, Follows}
 
--- a desk that recorded that its connection is gone is of the same service
+-- a desk that recorded that its connection is gone is of the same service, with the same passes
 goes-home : (old new : Place) → Goes old new → new.told.home ≡ old.told.home
 goes-home old new (inl recorded) = recorded.same.home
 goes-home old new (inr none) = none.0.same.home
 
-module _ {A B C I O : Type 0} (read_told : A → Told) (read_seen : A → View → Type 0) (write_told : B → Told) (write_seen : B → View → Type 0) (coming : C → Option (ℕ → ℕ)) (left : I → Option (List ℕ)) (in_faults : I → ℕ) (in_steady in_closed : I → Bool) (written : O → Option (List ℕ)) (out_faults : O → ℕ) (out_steady out_closed : O → Bool) (home : Option TableId) where
+module _ {A B C I O : Type 0} (read_told : A → Told) (read_seen : A → View → Type 0) (write_told : B → Told) (write_seen : B → View → Type 0) (coming : C → Option (ℕ → ℕ)) (left : I → Option (List ℕ)) (in_faults : I → ℕ) (in_steady in_closed : I → Bool) (written : O → Option (List ℕ)) (out_faults : O → ℕ) (out_steady out_closed : O → Bool) (home : Option Home) where
   -- both desks are of the service
   abbrev pub IsHome : A → B → Type 0
   IsHome reader writer = ((read_told reader).home ≡ home) × ((write_told writer).home ≡ home)

@@ -1,11 +1,10 @@
 -- What the desks of all connections recorded is in the history that the last pass has seen.
 use Rattle.std.proofs.Common.{◌≡◌, ℕ, inl, inr, Bool, List, [], ◌∷◌, ◌++◌, Option, None, Result, Ok, Err, refl, sym, ap, ◌∙◌, subst}
 use Rattle.std.specs.List.{AllByRecursion, AllZip}
-use Rattle.atomic_table.specs.Seated.{TableId}
 use Rattle.dbus_framing.specs.Framers.{Framing}
 use Rattle.shared_service.specs.service_tables.specs.State.{State}
 use Rattle.shared_service.specs.service_desk.specs.Calls.{Goes}
-use Rattle.shared_service.specs.service_desk.specs.Places.{Place, place}
+use Rattle.shared_service.specs.service_desk.specs.Places.{Home, Place, place}
 use Rattle.shared_service.specs.service_desk.specs.Records as records
 use Rattle.shared_service.specs.service_desk.specs.Records.{Records, with_seen}
 use Rattle.shared_service.specs.service_desk.specs.Views.{View}
@@ -51,7 +50,7 @@ module _ {R F S T I O : Type 0} where
   abbrev pub IsNew : LinkJob R F S T I O → Type 0
   IsNew job = (job.reader.pass.view.own ≡ []) × (job.writer.pass.view.own ≡ [])
 
-  pub is-new : (uid : ℕ) (guid seed : List ℕ) (home : Option TableId) (old new : View) (job : LinkJob R F S T I O) → IsJobOf desk_told desk_seen desk_told desk_seen uid guid seed home job old new → IsNew job
+  pub is-new : (uid : ℕ) (guid seed : List ℕ) (home : Option Home) (old new : View) (job : LinkJob R F S T I O) → IsJobOf desk_told desk_seen desk_told desk_seen uid guid seed home job old new → IsNew job
   is-new uid guid seed home old new job made = (
     ap (λ (v : View). v.own) (made.reader.view_is job.reader.pass.view refl),
     ap (λ (v : View). v.own) (made.writer.view_is job.writer.pass.view refl),

@@ -16,6 +16,7 @@ pub mod CollectionTable
 pub mod SessionTable
 pub mod PromptState
 pub mod SecretCalls
+pub mod SignalFanout
 pub mod ServiceTables
 pub mod ServiceEvents
 pub mod ServiceCalls

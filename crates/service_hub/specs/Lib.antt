@@ -3,6 +3,7 @@ pub use Rattle.daemon.specs.connection_worker
 pub use Rattle.daemon
 pub use Rattle.shared_service
 pub mod Gathering
+pub mod Lending
 pub mod Links
 pub mod Loop
 pub mod Moments

@@ -1,7 +1,9 @@
-ghost use Rattle.std.specs.Prelude.{◌≡◌, IfOk, IfErr, OnOk, IsSome, is_some, Some};
+ghost use Rattle.std.specs.Prelude.{◌≡◌, IfOk, IfErr, OnOk, OnErr, IsSome, is_some, Some};
 ghost use Rattle.std.specs.Arc.{arc_value};
 ghost use Rattle.daemon.specs.Hubs.{Joins, IsNotJoined};
-ghost use Rattle.shared_service.specs.Passes.{noted};
+ghost use Rattle.shared_service.specs.shared_turn.specs.Shares.{IsFirst};
+ghost use Rattle.shared_service.specs.Passes.{noted, left_by, giving};
+ghost use Rattle.service_hub.specs.Lending.{of_desk, missing_in, first-prop};
 
 use crate::clock::CommonClock;
 use daemon::Hub;
@@ -27,11 +29,12 @@ pub struct ServiceHub<R: Wait, F: Folder, C: Clock> {
     // The clock of the connection that joined last, until its parts are asked for.
     next: Option<Arc<Mutex<C>, Global>>,
     refused: u64,
-    ghost fits: { pass.table ≡ arc_value service },
+    ghost fits: { pass.home.table ≡ arc_value service },
+    ghost first: { IsFirst pass.home.share } by { first-prop pass.home.share },
 }
 
 impl<R: Wait + Copy, F: Folder, C: Clock> ServiceHub<R, F, C> {
-    /// A hub over the service of this pass, whose connections have this clock in common. Each handshake
+    /// A hub over the service of this pass, its first one, whose connections have this clock in common. Each handshake
     /// awaits this user; `guid` is the server's number as 32 hex digits, and the seed that of all salts.
     ///
     /// Refused with `OutOfMemory` if no memory was left.
@@ -45,7 +48,8 @@ impl<R: Wait + Copy, F: Folder, C: Clock> ServiceHub<R, F, C> {
         seed: [u8; 32],
         clock: C,
     ) -> Result<ServiceHub<R, F, C>, OutOfMemory>
-        requires { pass.table ≡ service }
+        requires table { pass.home.table ≡ service }
+        requires first { IsFirst pass.home.share }
         ensures pass { IfOk result (λ hub. hub.pass ≡ pass) }
         ensures uid { IfOk result (λ hub. hub.uid ≡ uid) }
         ensures guid { IfOk result (λ hub. hub.guid ≡ guid) }
@@ -70,7 +74,7 @@ impl<R: Wait + Copy, F: Folder, C: Clock> ServiceHub<R, F, C> {
     // A pass that has seen what the hub has, and recorded nothing.
     pub(crate) fn note(&mut self) -> Pass<F>
         ensures noted { result ≡ noted self.old.pass }
-        ensures pass { self.new.pass ≡ self.old.pass }
+        ensures pass { self.new.pass ≡ giving 1 self.old.pass }
         ensures uid { self.new.uid ≡ self.old.uid }
         ensures guid { self.new.guid ≡ self.old.guid }
         ensures seed { self.new.seed ≡ self.old.seed }
@@ -83,7 +87,8 @@ impl<R: Wait + Copy, F: Folder, C: Clock> ServiceHub<R, F, C> {
     pub(crate) fn into_parts(self) -> (Arc<SharedService<F>, Global>, Pass<F>, u64)
     where
         R: Drop,
-        ensures service { result.1.table ≡ arc_value result.0 }
+        ensures service { result.1.home.table ≡ arc_value result.0 }
+        ensures first { IsFirst result.1.home.share }
         ensures pass { result.1 ≡ self.pass }
         ensures refused { result.2 ≡ self.refused }
     {
@@ -123,7 +128,8 @@ impl<R: Wait + Copy, F: Folder, C: Clock> ServiceHub<R, F, C> {
         ensures uid { self.new.uid ≡ self.old.uid }
         ensures guid { self.new.guid ≡ self.old.guid }
         ensures seed { self.new.seed ≡ self.old.seed }
-        ensures table { self.new.pass.table ≡ self.old.pass.table }
+        ensures given { OnOk result (self.new.pass.home ≡ left_by 2 self.old.pass.home) }
+        ensures kept { OnErr result (self.new.pass.home ≡ self.old.pass.home) }
         ensures count { self.new.refused ≡ self.old.refused }
         ensures clock { OnOk result (IsSome self.new.next) }
     {
@@ -186,9 +192,11 @@ where
 
     ghost seed = { λ hub. hub.seed };
 
-    ghost home = { λ hub. Some hub.pass.table };
+    ghost home = { λ hub. Some (of_desk hub.pass.home) };
 
     ghost view = { λ hub. hub.pass.view };
+
+    ghost lent = { λ hub. missing_in hub.pass.home.share };
 
     ghost refused = { λ hub. hub.refused };
 
@@ -209,5 +217,10 @@ where
             clock,
             Salts::new(self.seed, conn),
         )
+    }
+
+    fn take_back(&mut self, reader: SharedDesk<R, F>, writer: SharedDesk<R, F>) {
+        self.service.gather(&mut self.pass, writer.into_pass());
+        self.service.gather(&mut self.pass, reader.into_pass());
     }
 }

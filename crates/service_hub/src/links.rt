@@ -5,6 +5,8 @@ ghost use Rattle.shared_service.specs.service_events.specs.Fates.{is_steady};
 ghost use Rattle.daemon.specs.Accepts.{listening};
 ghost use Rattle.std.specs.List.{AllByRecursion};
 ghost use Rattle.service_hub.specs.Gathering.{AreGathered};
+ghost use Rattle.shared_service.specs.shared_turn.specs.Shares.{whole};
+ghost use Rattle.service_hub.specs.Lending.{of_desk};
 ghost use Rattle.service_hub.specs.Links.{IsOf, ServesLinks, all_passes};
 ghost use Rattle.service_hub.specs.Loop.{HasLoopCause};
 
@@ -45,8 +47,8 @@ fn gather_all<R: Wait + Drop, F: Folder, I: Drop, O: Drop>(
     pass: &mut Pass<F>,
     done: Vec<Served<SharedDesk<R, F>, SharedDesk<R, F>, I, O>>,
 )
-    requires table { pass.old.table ≡ service.now }
-    requires of_it { AllByRecursion (IsOf service.now) done.items }
+    requires table { pass.old.home.table ≡ service.now }
+    requires of_it { AllByRecursion (IsOf (of_desk pass.old.home)) done.items }
     ensures { AreGathered pass.old (all_passes done.items) pass.new }
 {
     let mut done = done;
@@ -57,7 +59,7 @@ fn gather_all<R: Wait + Drop, F: Folder, I: Drop, O: Drop>(
     }
 }
 
-// Any number of links that may be asked for has 64 bits. It does nothing.
+// The number of links that is asked for fits in 64 bits. The call does nothing.
 fn has_64_bits(most: Option<u64>)
     ensures { IfSome most (λ number. number < 2 ^ 64) }
 {}
@@ -67,8 +69,8 @@ fn has_64_bits(most: Option<u64>)
 /// jobs, gathers what their desks have seen and recorded, and takes the service back from the threads.
 ///
 /// Each link was served, or dropped since its connection couldn't join or its job couldn't be started
-/// (`accept_loop` of daemon). All that the connections recorded is in one history, in which each of
-/// their events has one place, and which led to the service.
+/// (`accept_loop` of daemon). All that the connections and the hub recorded is one history, in which each
+/// of their events has one place, and which led to the service. No event is of anyone else.
 pub fn serve_links<
     R: AllocGlobal + Threads + Wait + Copy + Send + Sync + Drop + 'static,
     F: Folder + Send + 'static,
@@ -87,6 +89,7 @@ where
     L::Out: Send + 'static,
     requires idle { spawner.old.started ≡ [] }
     requires fresh { L.given listener.old ≡ 0 }
+    requires whole { hub.pass.home.share ≡ whole }
     ensures why { HasLoopCause result.end most (L.given listener.new) (L.has_ended listener.new)
         (L.faults listener.old) (L.faults listener.new) }
     ensures idle { spawner.new.started ≡ [] }
@@ -102,6 +105,7 @@ where
         (record {
           standing = record {
             view = hub.pass.view;
+            lent = 1;
             unjoined = hub.refused;
             started = spawner.old.started;
             unstarted = spawner.old.unstarted;

@@ -59,9 +59,25 @@ const ASKED: &str = "\
 const ANSWERED: &str = "\
 6c0201010000000005000000080000000501750004000000";
 
-// Completed as the sixth output, with the collection My_5fKeys.
+// CollectionCreated as the sixth output, with the collection My_5fKeys.
+const MADE: &str = "\
+6c04010132000000060000007700000001016f00180000002f6f72672f667265656465736b746f702f73656372\
+6574730000000000000000020173001e0000006f72672e667265656465736b746f702e5365637265742e536572\
+7669636500000301730011000000436f6c6c656374696f6e437265617465640000000000000008016700016f00\
+002d0000002f6f72672f667265656465736b746f702f736563726574732f636f6c6c656374696f6e2f4d795f35\
+664b65797300";
+
+// PropertiesChanged as the seventh output: the service has other Collections.
+const CHANGED: &str = "\
+6c0401013c000000070000007e00000001016f00180000002f6f72672f667265656465736b746f702f73656372\
+6574730000000000000000020173001f0000006f72672e667265656465736b746f702e444275732e50726f7065\
+727469657300030173001100000050726f706572746965734368616e6765640000000000000008016700087361\
+7b73767d61730000001e0000006f72672e667265656465736b746f702e5365637265742e536572766963650000\
+00000000100000000b000000436f6c6c656374696f6e7300";
+
+// Completed as the eighth output, with the collection My_5fKeys.
 const COMPLETED: &str = "\
-6c0401013a000000060000007800000001016f00220000002f6f72672f667265656465736b746f702f73656372\
+6c0401013a000000080000007800000001016f00220000002f6f72672f667265656465736b746f702f73656372\
 6574732f70726f6d70742f7031000000000000020173001d0000006f72672e667265656465736b746f702e5365\
 637265742e50726f6d70740000000301730009000000436f6d706c657465640000000000000008016700026276\
 0000000000016f00002d0000002f6f72672f667265656465736b746f702f736563726574732f636f6c6c656374\
@@ -89,6 +105,8 @@ fn digits_of(word: &str) -> &'static str {
         "prompted" => PROMPTED,
         "Ask" => ASKED,
         "answered" => ANSWERED,
+        "CollectionCreated" => MADE,
+        "PropertiesChanged" => CHANGED,
         "Completed" => COMPLETED,
         "AccessDenied" => DENIED,
         "NoSuchObject" => MISSING,
@@ -99,7 +117,7 @@ fn digits_of(word: &str) -> &'static str {
 // The name, the calls, what is written, and how many events are stored since the last cut. The key of a
 // password that was taken is derived at once, and a cut comes before it is recorded.
 const CONVERSATIONS: &str = "\
-an agent makes a collection|Register,CreateCollection,Prompt,Answer|registered,created,prompted,Ask,answered,Completed|3
+an agent makes a collection|Register,CreateCollection,Prompt,Answer|registered,created,prompted,Ask,answered,CollectionCreated,PropertiesChanged,Completed|3
 a connection that isn't the agent answers|Answer|AccessDenied|4
 there is no such prompt|Register,Answer|registered,NoSuchObject|6
 ";

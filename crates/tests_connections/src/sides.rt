@@ -2,6 +2,7 @@
 // the reader runs to its end before the writer starts.
 ghost use Rattle.std.specs.Prelude.{◌≡◌, [], IfOk, IsTrue, IsFalse};
 ghost use Rattle.std.specs.Arc.{arc_value};
+ghost use Rattle.shared_service.specs.shared_turn.specs.Shares.{IsFirst};
 
 use crate::answers::push_all;
 use crate::checks::{cell, length, same_bytes, same_number, same_text};
@@ -30,7 +31,8 @@ fn no_files(alloc: Global) -> MemoryFolder
 fn shared(
     alloc: Global,
 ) -> Result<(Arc<SharedService<MemoryFolder>, Global>, Pass<MemoryFolder>), Fail>
-    ensures { IfOk result (λ both. both.1.table ≡ arc_value both.0) }
+    ensures table { IfOk result (λ both. both.1.home.table ≡ arc_value both.0) }
+    ensures first { IfOk result (λ both. IsFirst both.1.home.share) }
 {
     let (service, pass) = SharedService::open(alloc, Service::open(alloc, no_files(alloc))?)?;
     let service = Arc::new(alloc, service)?;
@@ -91,7 +93,7 @@ fn outcome<R: AllocGlobal + Wait + Copy + Drop, I: Source, O: Sink>(
 // The calls, how both sides end, what is written, and how many events are stored since the last cut. A cut
 // comes before a key is recorded.
 const CONVERSATIONS: &str = "\
-Register,CreateCollection,Prompt,Answer|Done Done|registered,created,prompted,Ask,answered,Completed|4
+Register,CreateCollection,Prompt,Answer|Done Done|registered,created,prompted,Ask,answered,CollectionCreated,PropertiesChanged,Completed|4
 Answer|Done Done|AccessDenied|5
 Register,Answer|Done Done|registered,NoSuchObject|6
 |Done Done||3

@@ -8,6 +8,8 @@ mod calls;
 #[cfg(test)]
 mod checks;
 #[cfg(test)]
+mod folders;
+#[cfg(test)]
 mod links;
 #[cfg(test)]
 mod loops;

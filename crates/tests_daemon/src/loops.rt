@@ -2,6 +2,7 @@
 ghost use Rattle.std.specs.Prelude.{◌≡◌, []};
 
 use crate::checks::{cell, numbers, same_text};
+use crate::folders::{large_folder, no_files};
 use crate::links::{
     Input, Links, Output, crossed_links, links_of, links_of_which_one_is_dropped,
     links_of_which_one_is_not_read, links_that_await_a_refusal,
@@ -22,16 +23,12 @@ use std::thread::Threads;
 
 type MemoryHub<R> = ServiceHub<R, MemoryFolder, ListedClock>;
 
-fn no_files(alloc: Global) -> MemoryFolder
-    ensures { result.made ≡ [] }
+// A hub over a service over this folder.
+fn hub<R: AllocGlobal + Wait + Copy>(rt: R, folder: MemoryFolder) -> Result<MemoryHub<R>, Fail>
+    requires { folder.made ≡ [] }
 {
-    MemoryFolder::new(alloc, Vec::new(alloc))
-}
-
-// A hub over a service without files.
-fn hub<R: AllocGlobal + Wait + Copy>(rt: R) -> Result<MemoryHub<R>, Fail> {
     let alloc = rt.alloc();
-    let (service, pass) = SharedService::open(alloc, Service::open(alloc, no_files(alloc))?)?;
+    let (service, pass) = SharedService::open(alloc, Service::open(alloc, folder)?)?;
     let guid = *b"76b8e0ada0f13d90405d6ae55386bd28";
     let clock = ListedClock::new(Vec::new(alloc));
     Ok(ServiceHub::new(alloc, rt, service, pass, 1000, guid, [0; 32], clock)?)
@@ -165,7 +162,7 @@ fn in_place<R: AllocGlobal + Threads + Wait + Copy + Send + Sync + Drop + 'stati
     failing: Vec<u64>,
     most: Option<u64>,
 ) -> Result<String, Fail> {
-    let mut hub = hub(*rt)?;
+    let mut hub = hub(*rt, no_files(rt.alloc()))?;
     by_service_in_place(rt, &mut hub, joined, links, failing, most)
 }
 
@@ -174,7 +171,20 @@ fn in_threads<R: AllocGlobal + Threads + Wait + Copy + Send + Sync + Drop + 'sta
     joined: u64,
     links: &mut Links,
 ) -> Result<String, Fail> {
-    let mut hub = hub(*rt)?;
+    let folder = no_files(rt.alloc());
+    in_threads_over(rt, folder, joined, links)
+}
+
+// The latter over a service over this folder.
+fn in_threads_over<R: AllocGlobal + Threads + Wait + Copy + Send + Sync + Drop + 'static>(
+    rt: &R,
+    folder: MemoryFolder,
+    joined: u64,
+    links: &mut Links,
+) -> Result<String, Fail>
+    requires { folder.made ≡ [] }
+{
+    let mut hub = hub(*rt, folder)?;
     by_service_in_threads(rt, &mut hub, joined, links)
 }
 
@@ -263,7 +273,8 @@ fn a_client_that_does_not_read_is_overrun_and_others_are_served(
     rt: HostRuntime,
 ) -> Result<(), Fail> {
     let mut links = links_of_which_one_is_not_read(rt.alloc())?;
-    let found = in_threads(&rt, 0, &mut links)?;
+    let folder = large_folder(rt.alloc())?;
+    let found = in_threads_over(&rt, folder, 0, &mut links)?;
     let want = "Ended 1 Done Overrun 8000000 2 Done Done 121";
     same_text(&rt, found.as_str(), want, "two links");
     Ok(())

@@ -1,4 +1,4 @@
-// A source that tells when nobody reads it any more, and a sink that holds its writer up.
+// A source that reports when nobody reads it any more, and a sink that holds its writer up.
 ghost use Rattle.std.specs.Prelude.{◌≡◌};
 
 use kr_outside::{Failed, Sink, Source};
@@ -67,7 +67,7 @@ fn wait_for(flag: &AtomicBool) {
     }
 }
 
-/// A sink whose writes wait for a flag, but for the first one, as if the other side read nothing after it.
+/// A sink whose writes wait for a flag, except for the first one, as if the other side read nothing after it.
 #[derive(Drop)]
 pub struct HeldSink<O: Sink + Drop> {
     sink: O,

@@ -31,8 +31,8 @@ fn answer(alloc: Global) -> Result<Call, Fail> {
     })
 }
 
-// A connection that is its own agent creates a collection, and returns the key that is to be derived.
-fn answers<D: ReadDesk>(alloc: Global, desk: &mut D) -> Result<Work, Fail> {
+/// A connection that is its own agent creates a collection, and returns the key that is to be derived.
+pub fn answers<D: ReadDesk>(alloc: Global, desk: &mut D) -> Result<Work, Fail> {
     brings(desk, Call::Register);
     brings(desk, create(alloc)?);
     brings(
@@ -70,7 +70,12 @@ fn a_key_is_derived_while_another_connection_asks(rt: HostRuntime) -> Result<(),
     let work = answers(rt.alloc(), &mut desk)?;
     let derived = is_derived(&mut desk, &mut other, work);
     holds(&rt, derived, "the call of another one, and the key");
-    same_number(&rt, taken(&mut writer), 2, "Ask and Completed");
+    same_number(
+        &rt,
+        taken(&mut writer),
+        4,
+        "Ask, two signals of the collection, and Completed",
+    );
     // The window was cut after the answer.
     over(service.close(&rt, pass), |service| stores(&rt, service, 3))
 }

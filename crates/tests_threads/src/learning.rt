@@ -1,6 +1,7 @@
 // A thread that gathers the note of another one has seen what that one did, and its calls are answered accordingly.
 ghost use Rattle.std.specs.Prelude.{◌≡◌};
 ghost use Rattle.shared_turn.specs.Places.{StartsWith};
+ghost use Rattle.shared_turn.specs.Shares.{IsFirst};
 
 use crate::checks::holds;
 use crate::requests::request;
@@ -99,8 +100,8 @@ fn brings<R: Wait>(
     conn: ConnId,
     call: Call,
 ) -> bool
-    requires { pass.old.table ≡ service.now }
-    ensures { pass.new.table ≡ pass.old.table }
+    requires { pass.old.home.table ≡ service.now }
+    ensures { pass.new.home ≡ pass.old.home }
 {
     match service.arrive(rt, pass, conn, request(call, true), 0, [0; 8]) {
         Ok(None) => true,
@@ -117,8 +118,8 @@ fn brings_all<R: Wait>(
     conn: ConnId,
     calls: Vec<Call>,
 ) -> bool
-    requires { pass.old.table ≡ service.now }
-    ensures { pass.new.table ≡ pass.old.table }
+    requires { pass.old.home.table ≡ service.now }
+    ensures { pass.new.home ≡ pass.old.home }
 {
     let mut all = true;
     for call in calls {
@@ -137,9 +138,10 @@ fn asks_after_a_note<R: Wait>(
     conn: ConnId,
     call: Call,
 ) -> bool
-    requires other_table { other.old.table ≡ service.now }
-    requires table { pass.old.table ≡ service.now }
-    ensures same { pass.new.table ≡ pass.old.table }
+    requires other_table { other.old.home.table ≡ service.now }
+    requires other_first { IsFirst other.old.home.share }
+    requires table { pass.old.home.table ≡ service.now }
+    ensures same { other.new.home.table ≡ other.old.home.table }
     ensures learnt { StartsWith pass.new.view.seen other.old.view.seen }
 {
     let note = service.note(other);
@@ -179,8 +181,10 @@ fn learns<R: Wait>(
     other: &mut Pass<MemoryFolder>,
     pass: &mut Pass<MemoryFolder>,
 ) -> Result<bool, Fail>
-    requires other_table { other.old.table ≡ service.now }
-    requires table { pass.old.table ≡ service.now }
+    requires other_table { other.old.home.table ≡ service.now }
+    requires other_first { IsFirst other.old.home.share }
+    requires table { pass.old.home.table ≡ service.now }
+    ensures { other.new.home.table ≡ other.old.home.table }
 {
     let opened = brings(rt, service, pass, ConnId(1), open(alloc)?);
     let made = brings_all(rt, service, other, ConnId(2), making(alloc)?);
@@ -194,8 +198,8 @@ fn a_pass_that_gathers_a_note_is_answered_with_the_secret_of_another(
 ) -> Result<(), Fail> {
     let (service, mut pass) = shared(rt.alloc())?;
     let (conn, mut one, mut writer) = service.join(&rt, &mut pass)?;
-    let (_, mut other, _) = service.join(&rt, &mut pass)?;
-    let learnt = learns(&rt, rt.alloc(), &service, &mut other, &mut one)?;
+    let _ = service.join(&rt, &mut pass)?;
+    let learnt = learns(&rt, rt.alloc(), &service, &mut pass, &mut one)?;
     holds(&rt, learnt, "all calls were recorded");
     let taken = service.take(&rt, &mut writer, conn);
     holds(&rt, gives_secret(&taken, b"the value"), "the secret");

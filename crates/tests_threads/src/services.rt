@@ -1,6 +1,7 @@
 // A service over a folder without files, and that service shared.
 ghost use Rattle.std.specs.Prelude.{◌≡◌, [], IfOk};
 ghost use Rattle.std.specs.Arc.{arc_value};
+ghost use Rattle.shared_turn.specs.Shares.{IsFirst};
 
 use crate::checks::same_number;
 use kr_memory_disk::MemoryFolder;
@@ -27,7 +28,8 @@ fn service_over_nothing(alloc: Global) -> Result<Service, Fail> {
 pub fn shared(
     alloc: Global,
 ) -> Result<(Arc<SharedService<MemoryFolder>, Global>, Pass<MemoryFolder>), Fail>
-    ensures { IfOk result (λ both. both.1.table ≡ arc_value both.0) }
+    ensures table { IfOk result (λ both. both.1.home.table ≡ arc_value both.0) }
+    ensures first { IfOk result (λ both. IsFirst both.1.home.share) }
 {
     let (service, pass) = SharedService::open(alloc, service_over_nothing(alloc)?)?;
     let service = Arc::new(alloc, service)?;

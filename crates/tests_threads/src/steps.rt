@@ -2,6 +2,7 @@
 // drawn, turns begin, events are counted, turns end, passes are gathered, and the service is closed. A pass owns
 // exactly as many events as calls of it were recorded.
 ghost use Rattle.std.specs.Prelude.{◌≡◌, ◌≤◌, [], OnSome};
+ghost use Rattle.shared_turn.specs.Shares.{IsFirst};
 ghost use Rattle.tests_threads.specs.Recorded.{Owns};
 
 use crate::checks::same_number;
@@ -18,7 +19,7 @@ type Shared = SharedService<MemoryFolder>;
 
 // Brings a request, and returns how many events were recorded.
 fn asks<R: Wait>(rt: &R, service: &Shared, pass: &mut Pass<MemoryFolder>, conn: ConnId) -> u64
-    requires { pass.old.table ≡ service.now }
+    requires { pass.old.home.table ≡ service.now }
     ensures owns { Owns result pass.old pass.new }
     ensures few { result ≤ 1 }
 {
@@ -30,7 +31,7 @@ fn asks<R: Wait>(rt: &R, service: &Shared, pass: &mut Pass<MemoryFolder>, conn: 
 
 // Takes what waits, and returns how many events were recorded.
 fn takes<R: Wait>(rt: &R, service: &Shared, pass: &mut Pass<MemoryFolder>, conn: ConnId) -> u64
-    requires { pass.old.table ≡ service.now }
+    requires { pass.old.home.table ≡ service.now }
     ensures owns { Owns result pass.old pass.new }
     ensures few { result ≤ 1 }
 {
@@ -45,7 +46,8 @@ fn takes<R: Wait>(rt: &R, service: &Shared, pass: &mut Pass<MemoryFolder>, conn:
 
 // A pass that is split off asks, and is gathered; returns how many events were recorded.
 fn asks_apart<R: Wait>(rt: &R, service: &Shared, pass: &mut Pass<MemoryFolder>, conn: ConnId) -> u64
-    requires { pass.old.table ≡ service.now }
+    requires table { pass.old.home.table ≡ service.now }
+    requires first { IsFirst pass.old.home.share }
     ensures owns { Owns result pass.old pass.new }
     ensures few { result ≤ 1 }
 {
@@ -62,7 +64,8 @@ fn takes_apart<R: Wait>(
     pass: &mut Pass<MemoryFolder>,
     conn: ConnId,
 ) -> u64
-    requires { pass.old.table ≡ service.now }
+    requires table { pass.old.home.table ≡ service.now }
+    requires first { IsFirst pass.old.home.share }
     ensures owns { Owns result pass.old pass.new }
     ensures few { result ≤ 1 }
 {
@@ -74,7 +77,8 @@ fn takes_apart<R: Wait>(
 
 // A connection asks and takes, each with a pass of its own; returns how many events were recorded.
 fn serves<R: Wait>(rt: &R, service: &Shared, pass: &mut Pass<MemoryFolder>, conn: ConnId) -> u64
-    requires { pass.old.table ≡ service.now }
+    requires table { pass.old.home.table ≡ service.now }
+    requires first { IsFirst pass.old.home.share }
     ensures owns { Owns result pass.old pass.new }
     ensures few { result ≤ 2 }
 {
@@ -85,7 +89,8 @@ fn serves<R: Wait>(rt: &R, service: &Shared, pass: &mut Pass<MemoryFolder>, conn
 
 // A connection joins, and its number is returned.
 fn joins<R: Wait>(rt: &R, service: &Shared, pass: &mut Pass<MemoryFolder>) -> Option<ConnId>
-    requires { pass.old.table ≡ service.now }
+    requires table { pass.old.home.table ≡ service.now }
+    requires first { IsFirst pass.old.home.share }
     ensures joined { OnSome result (Owns 1 pass.old pass.new) }
     ensures refused { result ≡ None → Owns 0 pass.old pass.new }
 {
@@ -97,7 +102,8 @@ fn joins<R: Wait>(rt: &R, service: &Shared, pass: &mut Pass<MemoryFolder>) -> Op
 
 // A connection joins, asks and takes; returns how many events were recorded.
 fn calls<R: Wait>(rt: &R, service: &Shared, pass: &mut Pass<MemoryFolder>) -> u64
-    requires { pass.old.table ≡ service.now }
+    requires table { pass.old.home.table ≡ service.now }
+    requires first { IsFirst pass.old.home.share }
     ensures { Owns result pass.old pass.new }
 {
     match joins(rt, service, pass) {

@@ -2,6 +2,7 @@
 // the calls that its thread made, in the thread's own order and each once.
 ghost use Rattle.std.specs.Prelude.{◌≡◌};
 ghost use Rattle.std.specs.Arc.{arc_value};
+ghost use Rattle.shared_turn.specs.Shares.{IsFirst};
 
 use crate::checks::same_number;
 use crate::requests::asks;
@@ -84,8 +85,10 @@ fn reader<R: Wait + Copy>(
     service: &Arc<SharedService<MemoryFolder>, Global>,
     pass: &mut Pass<MemoryFolder>,
 ) -> Result<SharedDesk<R, MemoryFolder>, Fail>
-    requires { pass.old.table ≡ arc_value service.now }
-    ensures { pass.new.table ≡ pass.old.table }
+    requires table { pass.old.home.table ≡ arc_value service.now }
+    requires first { IsFirst pass.old.home.share }
+    ensures table { pass.new.home.table ≡ pass.old.home.table }
+    ensures first { IsFirst pass.new.home.share }
 {
     let (conn, reader, _) = service.join(&rt, pass)?;
     Ok(SharedDesk::new(rt, Arc::try_clone(service)?, reader, conn))
@@ -98,8 +101,10 @@ fn readers<R: Wait + Copy + Drop>(
     service: &Arc<SharedService<MemoryFolder>, Global>,
     pass: &mut Pass<MemoryFolder>,
 ) -> Result<Vec<SharedDesk<R, MemoryFolder>>, Fail>
-    requires { pass.old.table ≡ arc_value service.now }
-    ensures { pass.new.table ≡ pass.old.table }
+    requires table { pass.old.home.table ≡ arc_value service.now }
+    requires first { IsFirst pass.old.home.share }
+    ensures table { pass.new.home.table ≡ pass.old.home.table }
+    ensures first { IsFirst pass.new.home.share }
 {
     let mut readers = Vec::with_capacity(alloc, THREADS)?;
     for _ in 0..THREADS {

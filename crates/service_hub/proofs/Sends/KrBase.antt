@@ -1,5 +1,5 @@
 -- What of kr_base may be sent to another thread.
-use denote.Param.Send.{IsSend, sendable}
+use denote.Param.Send.{IsSend, IsSync, sendable}
 use Rattle.std.proofs.Crossing as heap
 use Rattle.kr_base.specs.contracts.text.Text as Text
 use Rattle.kr_base.specs.contracts.bytes.Bytes as Bytes
@@ -12,6 +12,9 @@ use Rattle.kr_base.specs.contracts.id_list.IdList as IdList
 
 pub Text-send : IsSend Text.the_row
 Text-send = search (sendable, heap.crosses) depth 30
+
+pub Text-sync : IsSync Text.the_row
+Text-sync = search (sendable, heap.crosses) depth 30
 
 pub Bytes-send : IsSend Bytes.the_row
 Bytes-send = search (sendable, heap.crosses) depth 30

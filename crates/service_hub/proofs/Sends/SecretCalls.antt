@@ -1,8 +1,10 @@
 -- What of secret_calls may be sent to another thread.
-use denote.Param.Send.{IsSend, sendable}
+use denote.Param.Send.{IsSend, IsSync, sendable}
+use Rattle.std.proofs.Crossing as heap
 use Rattle.shared_service.specs.secret_calls.specs.contracts.alias.AliasName as AliasName
 use Rattle.shared_service.specs.secret_calls.specs.contracts.call.Call as Call
 use Rattle.shared_service.specs.secret_calls.specs.contracts.call.Request as Request
+use Rattle.shared_service.specs.secret_calls.specs.contracts.changed.ChangedObject as ChangedObject
 use Rattle.shared_service.specs.secret_calls.specs.contracts.out.Body as Body
 use Rattle.shared_service.specs.secret_calls.specs.contracts.out.Out as Out
 use Rattle.shared_service.specs.secret_calls.specs.contracts.property.Attribute as Attribute
@@ -12,10 +14,12 @@ use Rattle.shared_service.specs.secret_calls.specs.contracts.property.ShownPrope
 use Rattle.shared_service.specs.secret_calls.specs.contracts.secret.ItemSecret as ItemSecret
 use Rattle.shared_service.specs.secret_calls.specs.contracts.secret.ReturnedSecret as ReturnedSecret
 use Rattle.shared_service.specs.secret_calls.specs.contracts.secret.Secret as Secret
+use Rattle.shared_service.specs.secret_calls.specs.contracts.shared.SharedSignal as SharedSignal
+use Rattle.shared_service.specs.secret_calls.specs.contracts.shared.SizedSignal as SizedSignal
 use Rattle.shared_service.specs.secret_calls.specs.contracts.signal.Completion as Completion
 use Rattle.shared_service.specs.secret_calls.specs.contracts.signal.Signal as Signal
-use Rattle.service_hub.proofs.Sends.KrBase.{Attributes-send, Bytes-send, Stem-send, Text-send}
-use Rattle.service_hub.proofs.Sends.KrItems.{Items-send}
+use Rattle.service_hub.proofs.Sends.KrBase.{Attributes-send, Bytes-send, Stem-send, Text-send, Text-sync}
+use Rattle.service_hub.proofs.Sends.KrItems.{Items-send, Items-sync}
 use Rattle.service_hub.proofs.Sends.KrNames.{ObjectName-field-send, ObjectName-send}
 
 AliasName-send : IsSend AliasName.the_row
@@ -58,8 +62,45 @@ Body-send = search (Text-send, ReturnedSecret-send, ItemSecret-send, PropertyVal
 Completion-send : IsSend (Completion.the_field).row
 Completion-send = search (Text-send, Items-send, sendable) depth 40
 
+ChangedObject-send : IsSend (ChangedObject.the_field).row
+ChangedObject-send = search (Text-send, sendable) depth 40
+
 Signal-send : IsSend (Signal.the_field).row
-Signal-send = search (Text-send, Completion-send, sendable) depth 40
+Signal-send = search (Text-send, Completion-send, ChangedObject-send, ShownProperty-send, Property-send, Items-send, sendable) depth 40 fits 20000
+
+-- a signal that is shared is read by several threads
+Completion-sync : IsSync (Completion.the_field).row
+Completion-sync = search (Text-sync, Items-sync, sendable) depth 40
+
+Attribute-sync : IsSync Attribute.the_row
+Attribute-sync = search (Text-sync, sendable) depth 40
+
+PropertyValue-sync : IsSync (PropertyValue.the_field).row
+PropertyValue-sync = search (Text-sync, Attribute-sync, Items-sync, sendable) depth 40
+
+Property-sync : IsSync Property.the_row
+Property-sync = search sendable depth 40
+
+Property-field-sync : IsSync (Property.the_field).row
+Property-field-sync = search sendable depth 40
+
+ShownProperty-sync : IsSync ShownProperty.the_row
+ShownProperty-sync = search (Property-field-sync, PropertyValue-sync, sendable) depth 40
+
+ChangedObject-sync : IsSync (ChangedObject.the_field).row
+ChangedObject-sync = search (Text-sync, sendable) depth 40
+
+Signal-sync : IsSync (Signal.the_field).row
+Signal-sync = search (Text-sync, Completion-sync, ChangedObject-sync, ShownProperty-sync, Property-sync, Items-sync, sendable) depth 40 fits 20000
+
+SizedSignal-send : IsSend SizedSignal.the_row
+SizedSignal-send = search (Signal-send, sendable) depth 40
+
+SizedSignal-sync : IsSync SizedSignal.the_row
+SizedSignal-sync = search (Signal-sync, sendable) depth 40
+
+SharedSignal-send : IsSend SharedSignal.the_row
+SharedSignal-send = search (SizedSignal-send, SizedSignal-sync, sendable, heap.crosses) depth 40
 
 pub Out-send : IsSend Out.the_row
-Out-send = search (Body-send, Signal-send, sendable) depth 40
+Out-send = search (Body-send, SharedSignal-send, sendable) depth 40

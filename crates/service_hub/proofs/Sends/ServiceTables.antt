@@ -2,11 +2,9 @@
 use denote.RattleType.{RattleType}
 use denote.Param.Send.{IsSend, sendable}
 use Rattle.std.proofs.Crossing as heap
-use Rattle.std.proofs.MapsCrossing as maps
 use Rattle.kr_outside.specs.declared.slot.Slot as slot
 use Rattle.shared_service.specs.service_tables.specs.contracts.aliases.KeptAliases as KeptAliases
 use Rattle.shared_service.specs.service_tables.specs.contracts.connections.Connections as Connections
-use Rattle.shared_service.specs.service_tables.specs.contracts.desk.Desk as Desk
 use Rattle.shared_service.specs.service_tables.specs.contracts.disk.Disk as Disk
 use Rattle.shared_service.specs.service_tables.specs.contracts.fate.ReadFate as ReadFate
 use Rattle.shared_service.specs.service_tables.specs.contracts.fate.StoreFate as StoreFate
@@ -16,7 +14,7 @@ use Rattle.service_hub.proofs.Sends.AliasTable.{AliasTable-send}
 use Rattle.service_hub.proofs.Sends.FolderStore.{LeftAlone-send}
 use Rattle.service_hub.proofs.Sends.KrBase.{Stem-send}
 use Rattle.service_hub.proofs.Sends.ReplaceSlot.{FileCell-send}
-use Rattle.service_hub.proofs.Sends.SecretCalls.{Out-send}
+use Rattle.service_hub.proofs.Sends.SignalFanout.{Outboxes-send}
 use Rattle.service_hub.proofs.Sends.StemChoice.{UsedStems-send}
 
 pub ReadFate-send : IsSend ReadFate.the_row
@@ -25,11 +23,8 @@ ReadFate-send = search sendable depth 40
 pub StoreFate-send : IsSend StoreFate.the_row
 StoreFate-send = search sendable depth 40
 
-Desk-send : IsSend Desk.the_row
-Desk-send = search (Out-send, sendable, heap.crosses) depth 40
-
 pub Connections-send : IsSend Connections.the_row
-Connections-send = search (Desk-send, sendable, heap.crosses, maps.crosses) depth 40 fits 20000
+Connections-send = search (Outboxes-send, sendable) depth 40
 
 module _ (S : RattleType) (s : slot.Ghosts S.Denot) where
   KeptAliases-send : IsSend S → IsSend (KeptAliases.the_field S s).row

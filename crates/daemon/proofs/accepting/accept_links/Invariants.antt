@@ -17,8 +17,8 @@ invariant-loop g l =
     let listener = g.L.Listener in
     AcceptedSoFar (IsRound reader.told reader.has_seen writer.told writer.has_seen source.left source.faults source.is_steady source.is_closed sink.written sink.faults
     sink.is_steady sink.is_closed (hub.uid l.initial.hub) (hub.guid l.initial.hub) (hub.seed l.initial.hub) (hub.home l.initial.hub)) l.fn.most l.left
-    (record { standing = standing hub.view hub.refused l.initial.hub l.initial.spawner; listening = listening listener.coming listener.given l.initial.listener })
-    (record { standing = standing hub.view hub.refused l.hub l.spawner; listening = listening listener.coming listener.given l.listener })
+    (record { standing = standing hub.view hub.lent hub.refused l.initial.hub l.initial.spawner; listening = listening listener.coming listener.given l.initial.listener })
+    (record { standing = standing hub.view hub.lent hub.refused l.hub l.spawner; listening = listening listener.coming listener.given l.listener })
     × (listener.faults l.listener ≡ listener.faults l.initial.listener)
     × IsSameHub hub.uid hub.guid hub.seed hub.home l.initial.hub l.hub
     × KeepsSteady (listener.is_steady l.initial.listener) (listener.is_steady l.listener) (listener.faults l.initial.listener) (listener.faults l.listener)

@@ -19,11 +19,11 @@ returns-clause-accepts g c =
     source.left source.faults source.is_steady source.is_closed sink.written sink.faults sink.is_steady sink.is_closed
     (hub.uid c.args.hub.now) (hub.guid c.args.hub.now) (hub.seed c.args.hub.now) (hub.home c.args.hub.now)
     (Serves reader.told reader.has_seen writer.told writer.has_seen g.U.Time.Clock.coming source.left source.faults source.is_steady source.is_closed sink.written sink.faults sink.is_steady sink.is_closed)
-    c.args.most (record { standing = standing hub.view hub.refused c.args.hub.now c.args.spawner.now; listening = listening listener.coming listener.given c.args.listener.now })
-    (record { standing = standing hub.view hub.refused linked.new.hub linked.new.spawner; listening = listening listener.coming listener.given linked.new.listener })
-    (record { standing = standing hub.view hub.refused linked.new.hub finished.new.spawner; listening = listening listener.coming listener.given linked.new.listener })
+    c.args.most (record { standing = standing hub.view hub.lent hub.refused c.args.hub.now c.args.spawner.now; listening = listening listener.coming listener.given c.args.listener.now })
+    (record { standing = standing hub.view hub.lent hub.refused linked.new.hub linked.new.spawner; listening = listening listener.coming listener.given linked.new.listener })
+    (record { standing = standing hub.view hub.lent hub.refused linked.new.hub finished.new.spawner; listening = listening listener.coming listener.given linked.new.listener })
     (listener.faults c.args.listener.now) (listener.faults linked.new.listener) (listener.has_ended linked.new.listener) linked.result
     c.args.done.now.items linked.new.done.items finished.new.done.items linked.new.spawner finished.new.spawner
     linked.ensures.accepts c.requires.idle linked.ensures.done finished.ensures refl
-    (world-finished (hub.view linked.new.hub) (hub.refused linked.new.hub) (listening listener.coming listener.given linked.new.listener) linked.new.spawner finished.new.spawner
+    (world-finished (hub.view linked.new.hub) (hub.lent linked.new.hub) (hub.refused linked.new.hub) (listening listener.coming listener.given linked.new.listener) linked.new.spawner finished.new.spawner
     finished.ensures.finished)

@@ -14,6 +14,7 @@ returns-clause-accepts g c =
             counted = rw c.in-Some.is at c.in-Ok.ensures.given;
           });
           admitted = admits.admitted;
+          hung = admits.hung;
         },
       ),
       c.in-Ok.ensures.still,

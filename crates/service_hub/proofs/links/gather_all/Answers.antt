@@ -5,7 +5,7 @@ use Rattle.service_hub.proofs.links.gather_all.Goals as goal
 
 -- none was gathered yet
 pub loop-served-init : goal.loop-served-init
-loop-served-init g c = none-gathered c.args.pass.now c.args.done.items (rw c.requires.table c.requires.of_it)
+loop-served-init g c = none-gathered c.args.pass.now c.args.done.items c.requires.of_it
 
 -- those of one more connection
 pub loop-served-preserved : goal.loop-served-preserved
