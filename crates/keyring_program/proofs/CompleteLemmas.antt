@@ -14,7 +14,7 @@ use Rattle.service_hub.specs.connection_worker.specs.declared.ending.End as endi
 use Rattle.service_hub.specs.connection_worker.specs.declared.ending.End.TheVariants as end
 use Rattle.service_hub.specs.connection_worker.specs.Causes.{AllServed, FirstServed, HasCause}
 use Rattle.lone_desk.specs.service_events.specs.Single.{TimedRequest, requests_of}
-use Rattle.service_hub.specs.connection_worker.specs.Streams.{Input, Output}
+use Rattle.service_hub.specs.connection_worker.specs.Streams.{Input, Output, Took}
 use Rattle.service_hub.specs.connection_worker.proofs.WholeLemmas.{still, front-of, at-end, never-violated}
 use Rattle.keyring_program.specs.Events.{events_until, events_of, the_connection}
 use Rattle.keyring_program.specs.ServerNumber.{guid}
@@ -80,57 +80,70 @@ until-of contents asked = length-append (events_until contents asked) (event.Gon
 
 -- ---- the whole
 
--- if the input didn't fail, a whole input is answered to its end, unless memory ran out or the output failed
+-- the messages of a whole input, and what was read of it
+module _ (uid : ℕ) (seed bytes read : List ℕ) (from to : Input) (whole : IsWholeInput uid seed bytes) (told : from.left ≡ Some bytes) (took : Took from to read) where
+  front : (left : List ℕ) × (bytes ≡ read ++ left) × (to.left ≡ Some left)
+  front = front-of from.left to.left read bytes told took.consumed
+
+  abbrev left : List ℕ
+  left = front.0
+
+  is-open : (handshake_run uid seed (read ++ left)).end ≡ opened whole.behind
+  is-open = ap (λ l. (handshake_run uid seed l).end) (sym front.1) ∙ whole.opened
+
+  joined : (rest : List ℕ) → (handshake_run uid seed read).end ≡ opened rest → whole.behind ≡ rest ++ left
+  joined rest is = let e = sym is-open ∙ opened-more uid seed read left rest is in cc
+
+  stream : (rest : List ℕ) → (handshake_run uid seed read).end ≡ opened rest → Stream most_bytes (rest ++ left) whole.messages []
+  stream rest is = subst (λ l. Stream most_bytes l whole.messages []) (joined rest is) whole.stream
+
+  -- the requests that were recorded are the first in all the bytes
+  pub first-all : (asked : List TimedRequest) → FirstServed (handshake_run uid seed read) asked → (asked ≡ []) ⊎ FirstRequests most_bytes whole.behind (requests_of asked)
+  first-all asked (inl none) = inl none
+  first-all asked (inr first) = inr (subst (λ l. FirstRequests most_bytes l (requests_of asked)) (sym (joined first.0 first.1)) (first-more first.0 left asked first.2))
+
+  few : (contents : Contents) (asked : List TimedRequest) → FirstServed (handshake_run uid seed read) asked → most_events ≤ length (events_until contents asked) → ⊥
+  few contents asked first many = pass (first-all asked first)
+    where
+      pass : (asked ≡ []) ⊎ FirstRequests most_bytes whole.behind (requests_of asked) → ⊥
+      pass (inl none) = let one : length (events_until contents asked) ≡ 1 = ap (λ l. length (events_until contents l)) none in omega (arith, one, many)
+      pass (inr all) = omega (arith, whole.few contents asked all, until-of contents asked, many)
+
+  -- why it may have ended
+  by_cause : (contents : Contents) (asked : List TimedRequest) (sink behind : Output) → StandsStill from.faults to.faults → (how : ending.End)
+      → HasCause how (handshake_run uid seed read) asked (length (events_until contents asked)) from to sink behind
+      → (status_of how ≡ status.Done) ⊎ ((status_of how ≡ status.Memory) ⊎ (((status_of how ≡ status.WriteFault) × Rose sink.faults behind.faults) ⊎ ((status_of how ≡ status.Overrun) × (how ≡ end.Overrun))))
+  by_cause contents asked sink behind input end.Done cause = inl refl
+  by_cause contents asked sink behind input (end.Violation which) cause =
+      let all : AllServed (handshake_run uid seed read) asked cause.0.0 = cause.0.1 in
+      absurd (never-violated all.behind left cause.0.0 all.all.messages whole.messages to which front.2 all.all.stream cause.0.2 (stream all.behind all.opened))
+  by_cause contents asked sink behind input (end.AuthRefused why) cause = absurd (never-refused uid seed read left whole.behind to why front.2 is-open cause.0)
+  by_cause contents asked sink behind input end.ReadFault cause = absurd (still from.faults to.faults input cause.0)
+  by_cause contents asked sink behind input end.WriteFault cause = inr (inr (inl (refl, cause.0)))
+  by_cause contents asked sink behind input end.EventsSpent cause = absurd (few contents asked cause.1 cause.0)
+  by_cause contents asked sink behind input end.Memory cause = inr (inl refl)
+  by_cause contents asked sink behind input end.Overrun cause = inr (inr (inr (refl, refl)))
+  by_cause contents asked sink behind input end.OtherEnded cause = absurd cause
+
+-- if the input didn't fail, a whole input is answered to its end, unless memory ran out, the output failed or an output was lost
 pub answered : (uid : ℕ) (seed bytes : List ℕ) (coming : Option (ℕ → ℕ)) (from to : Input) (sink behind : Output) (steady : Bool) (contents : Contents) (how : Status)
-    → Serves uid seed coming from to sink behind steady contents how → IsWholeInput uid seed bytes → from.left ≡ Some bytes → StandsStill from.faults to.faults
-    → (how ≡ status.Done) ⊎ ((how ≡ status.Memory) ⊎ ((how ≡ status.WriteFault) × Rose sink.faults behind.faults))
+    → (so : Serves uid seed coming from to sink behind steady contents how) → IsWholeInput uid seed bytes → from.left ≡ Some bytes → StandsStill from.faults to.faults
+    → (how ≡ status.Done) ⊎ ((how ≡ status.Memory) ⊎ (((how ≡ status.WriteFault) × Rose sink.faults behind.faults) ⊎ ((how ≡ status.Overrun) × (so.how ≡ end.Overrun))))
 answered uid seed bytes coming from to sink behind steady contents how so whole told input =
-    subst (λ s. (s ≡ status.Done) ⊎ ((s ≡ status.Memory) ⊎ ((s ≡ status.WriteFault) × Rose sink.faults behind.faults))) (sym so.status_is) (by_cause so.how so.cause)
-  where
-    front : (left : List ℕ) × (bytes ≡ so.read ++ left) × (to.left ≡ Some left)
-    front = front-of from.left to.left so.read bytes told so.took.consumed
+    subst (λ s. (s ≡ status.Done) ⊎ ((s ≡ status.Memory) ⊎ (((s ≡ status.WriteFault) × Rose sink.faults behind.faults) ⊎ ((s ≡ status.Overrun) × (so.how ≡ end.Overrun))))) (sym so.status_is)
+    (by_cause uid seed bytes so.read from to whole told so.took contents so.asked sink behind input so.how so.cause)
 
-    left : List ℕ
-    left = front.0
-
-    is-open : (handshake_run uid seed (so.read ++ left)).end ≡ opened whole.behind
-    is-open = ap (λ l. (handshake_run uid seed l).end) (sym front.1) ∙ whole.opened
-
-    joined : (rest : List ℕ) → (handshake_run uid seed so.read).end ≡ opened rest → whole.behind ≡ rest ++ left
-    joined rest is = let e = sym is-open ∙ opened-more uid seed so.read left rest is in cc
-
-    stream : (rest : List ℕ) → (handshake_run uid seed so.read).end ≡ opened rest → Stream most_bytes (rest ++ left) whole.messages []
-    stream rest is = subst (λ l. Stream most_bytes l whole.messages []) (joined rest is) whole.stream
-
-    few : (asked : List TimedRequest) → FirstServed (handshake_run uid seed so.read) asked → most_events ≤ length (events_until contents asked) → ⊥
-    few asked (inl none) many = let one : length (events_until contents asked) ≡ 1 = ap (λ l. length (events_until contents l)) none in omega (arith, one, many)
-    few asked (inr first) many =
-        let all = subst (λ l. FirstRequests most_bytes l (requests_of asked)) (sym (joined first.0 first.1)) (first-more first.0 left asked first.2) in
-        omega (arith, whole.few contents asked all, until-of contents asked, many)
-
-    by_cause : (how : ending.End) → HasCause how (handshake_run uid seed so.read) so.asked (length (events_until contents so.asked)) from to sink behind
-        → (status_of how ≡ status.Done) ⊎ ((status_of how ≡ status.Memory) ⊎ ((status_of how ≡ status.WriteFault) × Rose sink.faults behind.faults))
-    by_cause end.Done cause = inl refl
-    by_cause (end.Violation which) cause =
-        let all : AllServed (handshake_run uid seed so.read) so.asked cause.0.0 = cause.0.1 in
-        absurd (never-violated all.behind left cause.0.0 all.all.messages whole.messages to which front.2 all.all.stream cause.0.2 (stream all.behind all.opened))
-    by_cause (end.AuthRefused why) cause = absurd (never-refused uid seed so.read left whole.behind to why front.2 is-open cause.0)
-    by_cause end.ReadFault cause = absurd (still from.faults to.faults input cause.0)
-    by_cause end.WriteFault cause = inr (inr (refl, cause.0))
-    by_cause end.EventsSpent cause = absurd (few so.asked cause.1 cause.0)
-    by_cause end.Memory cause = inr (inl refl)
-    by_cause end.OtherEnded cause = absurd cause
-    by_cause end.Overrun cause = absurd cause
-
--- if neither of them failed, unless memory ran out
+-- if neither of them failed, unless memory ran out or an output was lost
 pub complete : (uid : ℕ) (seed bytes : List ℕ) (coming : Option (ℕ → ℕ)) (from to : Input) (sink behind : Output) (steady : Bool) (contents : Contents) (how : Status)
-    → Serves uid seed coming from to sink behind steady contents how → IsWholeInput uid seed bytes → from.left ≡ Some bytes → StandsStill from.faults to.faults → StandsStill sink.faults behind.faults → (how ≡ status.Done) ⊎ (how ≡ status.Memory)
-complete uid seed bytes coming from to sink behind steady contents how so whole told input output = pass (answered uid seed bytes coming from to sink behind steady contents how so whole told input)
-  where
-    pass : (how ≡ status.Done) ⊎ ((how ≡ status.Memory) ⊎ ((how ≡ status.WriteFault) × Rose sink.faults behind.faults)) → (how ≡ status.Done) ⊎ (how ≡ status.Memory)
-    pass (inl done) = inl done
-    pass (inr (inl memory)) = inr memory
-    pass (inr (inr failed)) = absurd (still sink.faults behind.faults output failed.1)
+    → Serves uid seed coming from to sink behind steady contents how → IsWholeInput uid seed bytes → from.left ≡ Some bytes → StandsStill from.faults to.faults → StandsStill sink.faults behind.faults
+    → (how ≡ status.Done) ⊎ ((how ≡ status.Memory) ⊎ (how ≡ status.Overrun))
+complete uid seed bytes coming from to sink behind steady contents how so whole told input output =
+    elim (answered uid seed bytes coming from to sink behind steady contents how so whole told input) [
+      | inl done ↦ inl done
+      | inr (inl memory) ↦ inr (inl memory)
+      | inr (inr (inl failed)) ↦ absurd (still sink.faults behind.faults output failed.1)
+      | inr (inr (inr lost)) ↦ inr (inr lost.0)
+    ]
 
 -- each end has a status of a command that serves the standard streams
 end-status : (how : ending.End) → IsStdioStatus (status_of how)

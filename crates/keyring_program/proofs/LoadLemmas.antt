@@ -16,11 +16,12 @@ use Rattle.lone_desk.specs.service_tables.specs.Sound.{AreSoundContents}
 use Rattle.lone_desk.specs.service_tables.specs.State.{State}
 use Rattle.lone_desk.specs.service_events.specs.declared.event.Event.TheVariants as event
 use Rattle.lone_desk.specs.service_events.specs.Replay.{Legal}
-use Rattle.lone_desk.specs.service_events.specs.Single.{AllFaultless, AllFinished, TimedRequest, requests_of, turns}
+use Rattle.lone_desk.specs.service_events.specs.Single.{AllFaultless, AllFinished, AreFinished, TimedRequest, requests_of, turns}
 use Rattle.kr_base.specs.declared.ids.ConnId.{ConnId}
 use Rattle.service_hub.specs.connection_worker.specs.declared.ending.End as ending
 use Rattle.service_hub.specs.connection_worker.specs.declared.ending.End.TheVariants as end
 use Rattle.service_hub.specs.connection_worker.specs.Arrivals.{AreRequests, FirstRequests, calls_in}
+use Rattle.service_hub.specs.connection_worker.specs.Fitting.{FitTogether, HasFit}
 use Rattle.service_hub.specs.connection_worker.specs.Handshakes.{most_bytes}
 use Rattle.service_hub.specs.connection_worker.specs.Replies.{outputs_to}
 use Rattle.service_hub.specs.connection_worker.specs.Streams.{Input, Output}
@@ -32,7 +33,7 @@ use Rattle.load_plan.specs.Plan.{plan}
 use Rattle.load_plan.specs.Sending.{conversation, sent_from}
 use Rattle.load_plan.specs.Answered.{CountsMessages, CountsReplies, behind_line}
 use Rattle.load_plan.specs.Lines.{summary}
-use Rattle.load_laws.specs.Requests.{AreAsked, said_from}
+use Rattle.load_laws.specs.Requests.{AreAsked, AreFirstAsked, said_from}
 use Rattle.load_laws.specs.Outputs.{all_counted, started}
 use Rattle.load_laws.proofs.SendLemmas.{answer-over}
 use Rattle.load_laws.proofs.TurnLemmas.{legal-front}
@@ -40,11 +41,11 @@ use Rattle.keyring_program.specs.Events.{events_of, events_until, joined, text_o
 use Rattle.keyring_program.specs.Serves.{Serves, handshake_run}
 use Rattle.keyring_program.specs.ServerNumber.{first_words, guid}
 use Rattle.keyring_program.specs.WholeInput.{IsWholeInput}
-use Rattle.keyring_program.specs.Loads.{the_user, HasTalked, Loads, LoadEnds}
+use Rattle.keyring_program.specs.Loads.{the_user, FitsLoad, HasTalked, Loads, LoadEnds}
 use Rattle.keyring_program.specs.Status.{IsLoadStatus, status_of}
 use Rattle.keyring_program.specs.declared.status.Status.{Status}
 use Rattle.keyring_program.specs.declared.status.Status.TheVariants as status
-use Rattle.keyring_program.proofs.CompleteLemmas.{answered}
+use Rattle.keyring_program.proofs.CompleteLemmas.{answered, first-all}
 
 -- a count that is 0 stands still
 pub zero-still : StandsStill 0 0
@@ -85,6 +86,17 @@ module _ (items number : ℕ) (few : items ≤ 1000)
     );
   }
 
+  -- what its first requests put out can wait
+  pub load-fits : (seed : List ℕ) → ((items seed : ℕ) (asked : List TimedRequest) → items ≤ 1000 → FirstRequests most_bytes (sent_from 1 (plan items seed)) (requests_of asked) → AreFirstAsked 1 (plan items seed) asked)
+      → ((items seed : ℕ) (contents : Contents) (asked : List TimedRequest) → items ≤ 1000 → AreSoundContents contents → contents.collections ≡ [] → contents.used ≡ []
+      → AreFirstAsked 1 (plan items seed) asked → Legal (started contents) (turns the_connection (started contents) asked) → AllFaultless asked → AreFinished the_connection (started contents) asked
+      → FitTogether the_connection (started contents) asked)
+      → (bytes : List ℕ) → (handshake_run the_user seed (conversation the_user (plan items number))).end ≡ opened bytes → FitsLoad bytes
+  load-fits seed firsts fits bytes is asked first sound legal faultless finished =
+      let same : bytes ≡ sent_from 1 (plan items number) = let e = sym is ∙ ap (λ (r : Run). r.end) (load-run seed) in cc in
+      let these = firsts items number asked few (subst (λ l. FirstRequests most_bytes l (requests_of asked)) same first) in
+      fits items number no_contents asked few sound refl refl these (legal-front (joined no_contents) (turns the_connection (joined no_contents) asked) (event.Gone the_connection ∷ []) legal.1) faultless finished
+
   -- ---- what is counted
 
   module _ (seed : List ℕ) (written : List ℕ) (counts : Counts) (talked : HasTalked seed (conversation the_user (plan items number)) written)
@@ -98,17 +110,17 @@ module _ (items number : ℕ) (few : items ≤ 1000)
     -- the service read all of it, and recorded each call
     abbrev IsAll : Type 0
     IsAll = (so.read ≡ conversation the_user (plan items number)) × AreAsked 1 (plan items number) so.asked × AllFinished the_connection (joined no_contents) so.asked
-        × (written ≡ text_of no_contents (handshake_run the_user seed so.read) so.asked)
+        × FitTogether the_connection (joined no_contents) so.asked × (written ≡ text_of no_contents (handshake_run the_user seed so.read) so.asked)
 
     all-read : ((items seed : ℕ) (asked : List TimedRequest) → items ≤ 1000 → AreRequests (calls_in (said_from 1 (plan items seed))) (requests_of asked) → AreAsked 1 (plan items seed) asked) → IsAll
-    all-read asks = by_end so.how so.status_is so.cause so.finished so.wrote
+    all-read asks = by_end so.how so.status_is so.cause so.finished so.fit so.wrote
       where
         front : (left : List ℕ) × (conversation the_user (plan items number) ≡ so.read ++ left) × (talked.to.left ≡ Some left)
         front = front-of talked.from.left talked.to.left so.read (conversation the_user (plan items number)) talked.sends so.took.consumed
 
         by_end : (how : ending.End) → status.Done ≡ status_of how → HasCause how (handshake_run the_user seed so.read) so.asked (length (events_until no_contents so.asked)) talked.from talked.to talked.sink talked.after
-            → HasFinished how the_connection (joined no_contents) so.asked [] → HasWritten how talked.sink talked.after (text_of no_contents (handshake_run the_user seed so.read) so.asked) → IsAll
-        by_end end.Done is cause finished wrote =
+            → HasFinished how the_connection (joined no_contents) so.asked [] → HasFit how the_connection (joined no_contents) so.asked → HasWritten how talked.sink talked.after (text_of no_contents (handshake_run the_user seed so.read) so.asked) → IsAll
+        by_end end.Done is cause finished fit wrote =
             let none : front.0 ≡ [] = at-end talked.to.left front.0 front.2 cause.1 in
             let read : so.read ≡ conversation the_user (plan items number) = sym (front.1 ∙ ap (λ (l : List ℕ). so.read ++ l) none ∙ append-nil so.read) in
             let served = cause.0 in
@@ -117,15 +129,15 @@ module _ (items number : ℕ) (few : items ≤ 1000)
             let stream : Stream most_bytes calls served.all.messages [] = subst (λ (l : List ℕ). Stream most_bytes l served.all.messages []) behind served.all.stream in
             let messages : served.all.messages ≡ said_from 1 (plan items number) = (one_stream most_bytes calls [] [] served.all.messages (said_from 1 (plan items number)) stream (streams items number few)).0 in
             let are : AreRequests (calls_in (said_from 1 (plan items number))) (requests_of so.asked) = subst (λ (m : List Parts). AreRequests (calls_in m) (requests_of so.asked)) messages served.all.are in
-            (read, asks items number so.asked few are, finished, told talked.sink.written talked.after.written written (text_of no_contents (handshake_run the_user seed so.read) so.asked) talked.starts talked.wrote wrote.appended)
-        by_end (end.Violation which) is cause finished wrote = absurd cc
-        by_end (end.AuthRefused why) is cause finished wrote = absurd cc
-        by_end end.ReadFault is cause finished wrote = absurd cc
-        by_end end.WriteFault is cause finished wrote = absurd cc
-        by_end end.EventsSpent is cause finished wrote = absurd cc
-        by_end end.Memory is cause finished wrote = absurd cc
-        by_end end.OtherEnded is cause finished wrote = absurd cause
-        by_end end.Overrun is cause finished wrote = absurd cause
+            (read, asks items number so.asked few are, finished, fit, told talked.sink.written talked.after.written written (text_of no_contents (handshake_run the_user seed so.read) so.asked) talked.starts talked.wrote wrote.appended)
+        by_end (end.Violation which) is cause finished fit wrote = absurd cc
+        by_end (end.AuthRefused why) is cause finished fit wrote = absurd cc
+        by_end end.ReadFault is cause finished fit wrote = absurd cc
+        by_end end.WriteFault is cause finished fit wrote = absurd cc
+        by_end end.EventsSpent is cause finished fit wrote = absurd cc
+        by_end end.Memory is cause finished fit wrote = absurd cc
+        by_end end.OtherEnded is cause finished fit wrote = absurd cause
+        by_end end.Overrun is cause finished fit wrote = absurd cc
 
     legal : Legal (joined no_contents) (turns the_connection (joined no_contents) so.asked)
     legal = legal-front (joined no_contents) (turns the_connection (joined no_contents) so.asked) (event.Gone the_connection ∷ []) so.legal.1
@@ -134,7 +146,7 @@ module _ (items number : ℕ) (few : items ≤ 1000)
         → ((items seed : ℕ) (contents : Contents) (asked : List TimedRequest) (counts : Counts) → items ≤ 1000 → AreSoundContents contents → contents.collections ≡ [] → contents.used ≡ []
         → AreAsked 1 (plan items seed) asked → Legal (started contents) (turns the_connection (started contents) asked) → AllFaultless asked → AllFinished the_connection (started contents) asked
         → CountsMessages seed (plan items seed) (spelled_behind 0 (outputs_to the_connection (started contents) asked)) counts → counts ≡ all_counted items)
-        → ((contents : Contents) (run : Run) (asked : List TimedRequest) → AreSoundContents contents → Legal (opened_state contents) (events_of contents asked)
+        → ((contents : Contents) (run : Run) (asked : List TimedRequest) → AreSoundContents contents → Legal (opened_state contents) (events_of contents asked) → FitTogether the_connection (joined contents) asked
         → text_of contents run asked ≡ concat run.answers ++ spelled_behind 0 (outputs_to the_connection (joined contents) asked))
         → counts ≡ all_counted items
     counts-are asks all texts =
@@ -142,7 +154,7 @@ module _ (items number : ℕ) (few : items ≤ 1000)
         let outs = spelled_behind 0 (outputs_to the_connection (joined no_contents) so.asked) in
         let run : handshake_run the_user seed so.read ≡ record { answers = ok_line (guid seed) ∷ []; end = opened calls } = ap (handshake_run the_user seed) read.0 ∙ load-run seed in
         let text : written ≡ concat (ok_line (guid seed) ∷ []) ++ outs =
-        read.3 ∙ texts no_contents (handshake_run the_user seed so.read) so.asked so.sound so.legal ∙ ap (λ (r : Run). concat r.answers ++ outs) run in
+        read.4 ∙ texts no_contents (handshake_run the_user seed so.read) so.asked so.sound so.legal read.3 ∙ ap (λ (r : Run). concat r.answers ++ outs) run in
         let behind : behind_line written ≡ outs = ap behind_line text ∙ over seed outs in
         all items number no_contents so.asked counts few so.sound refl refl read.1 legal (so.faultless refl) read.2
         (subst (λ (l : List ℕ). CountsMessages number (plan items number) l counts) behind counted)
@@ -165,15 +177,38 @@ talked seed sent coming from to sink after steady contents written result so sen
   serves = subst (λ s. Serves the_user seed coming from to sink after true no_contents s) is (subst (λ (c : Contents). Serves the_user seed coming from to sink after true c result) none (subst (λ b. Serves the_user seed coming from to sink after b contents result) is_steady so));
 }
 
+-- no output was lost, since those of the first requests can wait
+none-lost : (seed sent : List ℕ) (coming : Option (ℕ → ℕ)) (from to : Input) (sink after : Output) (ended : Status) → (so : Serves the_user seed coming from to sink after true no_contents ended)
+    → (whole : IsWholeInput the_user seed sent) → from.left ≡ Some sent → FitsLoad whole.behind → so.how ≡ end.Overrun → ⊥
+none-lost seed sent coming from to sink after ended so whole sends fits is = lost.1 (pass (first-all the_user seed sent so.read from to whole sends so.took so.asked cause.0))
+  where
+    cause : HasCause end.Overrun (handshake_run the_user seed so.read) so.asked (length (events_until no_contents so.asked)) from to sink after
+    cause = subst (λ h. HasCause h (handshake_run the_user seed so.read) so.asked (length (events_until no_contents so.asked)) from to sink after) is so.cause
+
+    lost : HasFit end.Overrun the_connection (joined no_contents) so.asked
+    lost = subst (λ h. HasFit h the_connection (joined no_contents) so.asked) is so.fit
+
+    finished : AreFinished the_connection (joined no_contents) so.asked
+    finished = subst (λ l. AreFinished the_connection (joined no_contents) l) (append-nil so.asked) (subst (λ h. HasFinished h the_connection (joined no_contents) so.asked []) is so.finished)
+
+    pass : (so.asked ≡ []) ⊎ FirstRequests most_bytes whole.behind (requests_of so.asked) → FitTogether the_connection (joined no_contents) so.asked
+    pass (inl none) = subst (λ l. FitTogether the_connection (joined no_contents) l) (sym none) tt
+    pass (inr first) = fits so.asked first so.sound so.legal (so.faultless refl) finished
+
 -- it ended, or memory ran out, or the output failed
 pub talk-status : (seed sent : List ℕ) (coming : Option (ℕ → ℕ)) (from to : Input) (sink after : Output) (steady : Bool) (contents : Contents) (ended : Status)
-    → Serves the_user seed coming from to sink after steady contents ended → IsWholeInput the_user seed sent → from.left ≡ Some sent → StandsStill from.faults to.faults → IsLoadStatus ended
-talk-status seed sent coming from to sink after steady contents ended so whole sends input = pass (answered the_user seed sent coming from to sink after steady contents ended so whole sends input)
+    → Serves the_user seed coming from to sink after steady contents ended → IsWholeInput the_user seed sent → ((bytes : List ℕ) → (handshake_run the_user seed sent).end ≡ opened bytes → FitsLoad bytes)
+    → from.left ≡ Some sent → StandsStill from.faults to.faults → steady ≡ true → contents ≡ no_contents → IsLoadStatus ended
+talk-status seed sent coming from to sink after steady contents ended served whole fits sends input is_steady none =
+    elim (answered the_user seed sent coming from to sink after true no_contents ended so whole sends input) [
+      | inl done ↦ subst IsLoadStatus (sym done) tt
+      | inr (inl memory) ↦ subst IsLoadStatus (sym memory) tt
+      | inr (inr (inl failed)) ↦ subst IsLoadStatus (sym failed.0) tt
+      | inr (inr (inr lost)) ↦ absurd (none-lost seed sent coming from to sink after ended so whole sends (fits whole.behind whole.opened) lost.1)
+    ]
   where
-    pass : (ended ≡ status.Done) ⊎ ((ended ≡ status.Memory) ⊎ ((ended ≡ status.WriteFault) × Rose sink.faults after.faults)) → IsLoadStatus ended
-    pass (inl done) = subst IsLoadStatus (sym done) tt
-    pass (inr (inl memory)) = subst IsLoadStatus (sym memory) tt
-    pass (inr (inr failed)) = subst IsLoadStatus (sym failed.0) tt
+    so : Serves the_user seed coming from to sink after true no_contents ended
+    so = subst (λ (c : Contents). Serves the_user seed coming from to sink after true c ended) none (subst (λ b. Serves the_user seed coming from to sink after b contents ended) is_steady served)
 
 -- ---- the four lines
 

@@ -20,6 +20,7 @@ use Rattle.lone_desk.specs.service_desk.proofs.RecordLemmas.{own-legal}
 use Rattle.service_hub.specs.connection_worker.specs.declared.ending.End.{End}
 use Rattle.service_hub.specs.connection_worker.specs.declared.ending.End.TheVariants as end
 use Rattle.service_hub.specs.connection_worker.specs.Causes.{HasCause, HasFinished, HasWritten}
+use Rattle.service_hub.specs.connection_worker.specs.Fitting.{HasFit}
 use Rattle.service_hub.specs.connection_worker.specs.OneThread.{IsServed}
 use Rattle.service_hub.specs.connection_worker.specs.Serving.{World, HasJoined, GivesSalts}
 use Rattle.lone_desk.specs.service_events.specs.Single.{AreFinished, TimedRequest, turn, turns, single}
@@ -56,7 +57,7 @@ just-joined contents told conn state = ap (λ (s : State). s.connections.rows) s
 pub only-end : (how : End) (run : Run) (asked : List TimedRequest) (count : ℕ) (from to : Input) (sink behind : Output)
     → HasCause how run asked count from to sink behind → IsOnlyEnd how
 only-end end.OtherEnded run asked count from to sink behind cause = absurd cause
-only-end end.Overrun run asked count from to sink behind cause = absurd cause
+only-end end.Overrun run asked count from to sink behind cause = tt
 only-end end.Done run asked count from to sink behind cause = tt
 only-end (end.Violation which) run asked count from to sink behind cause = tt
 only-end (end.AuthRefused why) run asked count from to sink behind cause = tt
@@ -79,7 +80,7 @@ has-finished end.WriteFault conn state asked refused finished = finished-front c
 has-finished end.EventsSpent conn state asked refused finished = finished-front conn asked refused state finished
 has-finished end.Memory conn state asked refused finished = finished-front conn asked refused state finished
 has-finished end.OtherEnded conn state asked refused finished = finished
-has-finished end.Overrun conn state asked refused finished = finished
+has-finished end.Overrun conn state asked refused finished = finished-front conn asked refused state finished
 has-finished end.Done conn state asked refused finished = finished
 has-finished (end.Violation which) conn state asked refused finished = finished
 has-finished (end.AuthRefused why) conn state asked refused finished = finished
@@ -111,6 +112,7 @@ serves contents uid seed from to sink behind old new how sound conn state count 
       moments = have-moments old.coming new.coming so.asked so.refused so.late so.moments;
       how = how;
       finished = at-start contents old.told.conn old.told.state conn state (λ c s. HasFinished how c s so.asked []) (has-finished how old.told.conn old.told.state so.asked so.refused so.finished);
+      fit = at-start contents old.told.conn old.told.state conn state (λ c s. HasFit how c s so.asked) so.fit;
       salts = have-salts seed new.salting so.asked so.refused (subst (λ s. GivesSalts s (map (λ (a : TimedRequest). a.salt) (so.asked ++ so.refused)) new.salting) salting so.salts);
       status_is = refl;
       cause = subst (λ n. HasCause how run so.asked n from to sink behind) counted so.cause;
@@ -133,6 +135,7 @@ serves-none contents uid seed coming from sink steady sound =
       salts = tt;
       how = end.Memory;
       finished = tt;
+      fit = tt;
       status_is = refl;
       cause = (inl refl, refl);
       wrote = record {

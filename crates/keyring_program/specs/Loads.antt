@@ -4,6 +4,13 @@ use Rattle.std.specs.Io.KnownBytes.{Appends}
 use Rattle.kr_outside.specs.Faults.{Rose}
 use Rattle.kr_outside.specs.Written.{AppendsFront}
 use Rattle.lone_desk.specs.service_history.specs.service_machine.specs.Rows.{no_contents}
+use Rattle.lone_desk.specs.service_events.specs.Replay.{Legal}
+use Rattle.lone_desk.specs.service_events.specs.Single.{AllFaultless, AreFinished, TimedRequest, requests_of}
+use Rattle.lone_desk.specs.service_tables.specs.Opened.{opened_state}
+use Rattle.lone_desk.specs.service_tables.specs.Sound.{AreSoundContents}
+use Rattle.service_hub.specs.connection_worker.specs.Arrivals.{FirstRequests}
+use Rattle.service_hub.specs.connection_worker.specs.Fitting.{FitTogether}
+use Rattle.service_hub.specs.connection_worker.specs.Handshakes.{most_bytes}
 use Rattle.service_hub.specs.connection_worker.specs.Streams.{Input, Output}
 use Rattle.load_plan.specs.declared.counts.Counts.{Counts}
 use Rattle.load_plan.specs.Plan.{plan}
@@ -11,6 +18,7 @@ use Rattle.load_plan.specs.Sending.{conversation}
 use Rattle.load_plan.specs.Answered.{CountsReplies}
 use Rattle.load_plan.specs.Lines.{summary}
 use Rattle.load_laws.specs.Outputs.{all_counted}
+use Rattle.keyring_program.specs.Events.{events_of, joined, the_connection}
 use Rattle.keyring_program.specs.Serves.{Serves}
 use Rattle.keyring_program.specs.declared.status.Status.{Status}
 use Rattle.keyring_program.specs.declared.status.Status.TheVariants as status
@@ -18,6 +26,12 @@ use Rattle.keyring_program.specs.declared.status.Status.TheVariants as status
 -- the user of the client
 abbrev pub the_user : ℕ
 the_user = 0
+
+-- Over a service that starts with nothing, and on a disk that doesn't fail, the outputs of the first requests in these bytes can wait together.
+abbrev pub FitsLoad : List ℕ → Type 0
+FitsLoad bytes =
+    (asked : List TimedRequest) → FirstRequests most_bytes bytes (requests_of asked) → AreSoundContents no_contents → Legal (opened_state no_contents) (events_of no_contents asked) → AllFaultless asked
+    → AreFinished the_connection (joined no_contents) asked → FitTogether the_connection (joined no_contents) asked
 
 -- A service whose disk is steady, and which started with nothing, served a client to its end, as its only connection and under this seed: the
 -- client sent the first bytes, and the second ones were written to it.

@@ -1,11 +1,10 @@
 -- One run over the links of a door: what became of each link, and the one history that all connections have.
-use Rattle.std.specs.Prelude.{◌≡◌, ℕ, Bool, List, ◌++◌, Option}
+use Rattle.std.specs.Prelude.{◌≡◌, ℕ, Bool, List, Option}
 use Rattle.kr_outside.specs.Host.{ShutDoors, TakesBack}
 use Rattle.kr_outside.specs.Listener.{LinkReport}
 use Rattle.atomic_table.specs.Seated.{TableId}
 use Rattle.lone_desk.specs.service_tables.specs.Opened.{Contents, opened_state}
 use Rattle.lone_desk.specs.service_tables.specs.Sound.{AreSoundContents}
-use Rattle.lone_desk.specs.service_events.specs.declared.event.Event.{Event}
 use Rattle.lone_desk.specs.service_events.specs.Replay.{replay, Legal}
 use Rattle.lone_desk.specs.service_history.specs.History.{History}
 use Rattle.lone_desk.specs.service_history.specs.Windows.{first_window}
@@ -50,12 +49,10 @@ pub record ServesDoor {R F S T I O : Type 0} (left : I → Option (List ℕ)) (i
   pub links : links.ServesLinks left in_faults in_steady in_closed written out_faults out_steady out_closed uid (guid seed) seed most
       (opened table steady (first_window (opened_state contents)))
       (record {
-        standing = record { view = (opened table steady (first_window (opened_state contents))).view; unjoined = 0; started = jobs_old.started; unstarted = jobs_old.unstarted };
+        standing = record { view = (opened table steady (first_window (opened_state contents))).view; lent = 1; unjoined = 0; started = jobs_old.started; unstarted = jobs_old.unstarted };
         listening = record { coming = coming; given = 0 };
       })
       unjoined jobs_new.unstarted (record { coming = coming_after; given = given }) faults faults_after has_ended how service
-  -- the history: what the connections have seen in the end, and what was recorded for links that were dropped and nobody has seen
-  pub log : List Event
-  pub log_is : log ≡ links.last.view.seen ++ links.closed.between
-  pub legal : Legal (opened_state contents) log
-  pub state : service.state ≡ replay (opened_state contents) log
+  -- the history is what the last pass has seen, in which each event is one desk's or the hub's
+  pub legal : Legal (opened_state contents) links.last.view.seen
+  pub state : service.state ≡ replay (opened_state contents) links.last.view.seen

@@ -25,14 +25,14 @@ number_of status.Memory = 9
 number_of status.ListenFault = 10
 number_of status.EventsSpent = 11
 number_of status.PasswordTooLong = 13
+number_of status.Overrun = 18
 
--- serving the only connection of a service may end in this way: nobody else ends it, and no output is lost
+-- serving the only connection of a service may end in this way: nobody else ends it
 abbrev pub IsOnlyEnd : End → Type 0
 IsOnlyEnd end.OtherEnded = ⊥
-IsOnlyEnd end.Overrun = ⊥
 IsOnlyEnd _ = Unit {0}
 
--- a command that is there and serves the standard streams may end in this way
+-- a command that serves the standard streams may end in this way
 abbrev pub IsStdioStatus : Status → Type 0
 IsStdioStatus status.Usage = ⊥
 IsStdioStatus status.ListenFault = ⊥
@@ -40,7 +40,7 @@ IsStdioStatus status.Damaged = ⊥
 IsStdioStatus status.PasswordTooLong = ⊥
 IsStdioStatus _ = Unit {0}
 
--- a command that is there and serves the links of a door may end in this way
+-- a command that serves the links of a door may end in this way
 abbrev pub IsServeStatus : Status → Type 0
 IsServeStatus status.Done = Unit {0}
 IsServeStatus status.FolderFault = Unit {0}
@@ -48,7 +48,7 @@ IsServeStatus status.ListenFault = Unit {0}
 IsServeStatus status.Memory = Unit {0}
 IsServeStatus _ = ⊥
 
--- a command that is there and serves a client in memory may end in this way
+-- a command that serves a client in memory may end in this way
 abbrev pub IsLoadStatus : Status → Type 0
 IsLoadStatus status.Done = Unit {0}
 IsLoadStatus status.WriteFault = Unit {0}
@@ -102,7 +102,7 @@ status_of_loop loop.Reached = status.Done
 status_of_loop loop.ListenFault = status.ListenFault
 status_of_loop loop.Memory = status.Memory
 
--- the status of a run whose connection ended in this way; the last row is for the ends that can't come
+-- the status of a run whose connection ended in this way; the last row is for that for which no memory was left, and for the one that can't come
 abbrev pub status_of : End → Status
 status_of end.Done = status.Done
 status_of (end.Violation cause) = status.Violation cause
@@ -110,4 +110,5 @@ status_of (end.AuthRefused why) = status.AuthRefused why
 status_of end.ReadFault = status.ReadFault
 status_of end.WriteFault = status.WriteFault
 status_of end.EventsSpent = status.EventsSpent
+status_of end.Overrun = status.Overrun
 status_of _ = status.Memory

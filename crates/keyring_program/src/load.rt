@@ -1,7 +1,9 @@
 // The command `load`.
-ghost use Rattle.std.specs.Prelude.{◌≡◌, ◌≤◌, IfOk, IfErr, IsFalse};
+ghost use Rattle.std.specs.Prelude.{◌≡◌, ◌≤◌, ℕ, List, IfOk, IfErr, IsFalse};
+ghost use Rattle.dbus_auth.specs.Handshake.{opened};
 ghost use Rattle.service_hub.specs.connection_worker.specs.Streams.{output_of};
-ghost use Rattle.keyring_program.specs.Loads.{the_user, HasTalked, Loads, LoadEnds};
+ghost use Rattle.keyring_program.specs.Loads.{the_user, FitsLoad, HasTalked, Loads, LoadEnds};
+ghost use Rattle.keyring_program.specs.Serves.{handshake_run};
 ghost use Rattle.keyring_program.specs.Status.{IsLoadStatus};
 ghost use Rattle.keyring_program.specs.WholeInput.{IsWholeInput};
 
@@ -11,7 +13,9 @@ use crate::status::Status;
 use kr_memory::{ListedClock, MemorySink, SteadySource};
 use kr_memory_disk::{Files, SteadyFolder, SteadySlot};
 use kr_outside::{Failed, Sink, write_all};
-use load_laws::{a_load_counts_all, a_load_has_few_events, a_load_is_read_whole};
+use load_laws::{
+    a_load_counts_all, a_load_has_few_events, a_load_is_read_whole, a_load_loses_no_output,
+};
 use load_plan::{conversation, count_replies, load_plan, summary};
 use lone_desk::service_history::Service;
 use std::alloc::AllocGlobal;
@@ -23,10 +27,12 @@ const USER: u32 = 0;
 // The most bytes of a file that the folder keeps. The files of a load are never read again.
 const ROOM: usize = 1_048_576;
 
-// Serves a client that sends these bytes, which are whole messages, as the only connection of a new service over a
+// Serves a client that sends these bytes, which are whole messages and whose outputs can wait together, as the only connection of a new service over a
 // folder in memory with nothing in it, and returns what was written to it.
 fn talk<R: AllocGlobal + Wait>(rt: &R, sent: Vec<u8>, seed: [u8; 32]) -> Result<MemorySink, Status>
     requires whole { IsWholeInput the_user seed sent.items }
+    requires fit { (bytes : List ℕ) → (handshake_run the_user seed sent.items).end ≡ opened bytes
+        → FitsLoad bytes }
     ensures served { IfOk result (λ sink. HasTalked seed sent.items sink.kept) }
     ensures memory { IfErr result (λ status. status ≡ Status.Memory) }
 {
@@ -51,7 +57,8 @@ fn talk<R: AllocGlobal + Wait>(rt: &R, sent: Vec<u8>, seed: [u8; 32]) -> Result<
         | Status::ListenFault
         | Status::Damaged
         | Status::PasswordTooLong
-        | Status::EventsSpent => unreachable!(),
+        | Status::EventsSpent
+        | Status::Overrun => unreachable!(),
         Status::Violation(_) => unreachable!(),
         Status::AuthRefused(_) => unreachable!(),
     }
@@ -73,6 +80,7 @@ fn lines<R: AllocGlobal + Wait>(
     a_load_is_read_whole();
     a_load_has_few_events();
     a_load_counts_all();
+    a_load_loses_no_output();
     each_request_has_its_reply();
     let Ok(calls) = load_plan(alloc, items, number) else {
         return Err(Status::Memory);

@@ -59,8 +59,8 @@ use std::thread::Threads;
 /// `load` otherwise ends with `Done`, with `WriteFault` only if the output's count of faults rose, or as the connection
 /// of its client ends. `serve` otherwise ends with `Done`, or with `ListenFault`, and with that only if that count rose, or
 /// the socket that it opened may fail. `stdio` otherwise ends as `one_thread` of connection_worker says
-/// (its `HasCause` has a row for each end); everything that was put out is written by then, except that
-/// at `WriteFault` and `Memory` it may be only a prefix of it. `check` otherwise ends with `Done`, or with `Damaged` if a
+/// (its `HasCause` has a row for each end); everything that was put out and could wait is written by then,
+/// except that at `WriteFault` and `Memory` it may be only a prefix of it. `check` otherwise ends with `Done`, or with `Damaged` if a
 /// file is damaged, with `ReadFault` or `WriteFault` only if that stream's count of faults rose, and with
 /// `PasswordTooLong` only if the first 4,096 bytes of the input have no line feed.
 pub fn run<
@@ -180,14 +180,14 @@ where
         (H.is_steady host.old) contents result) }
 
     // Over a host that never fails and streams that didn't, an open handshake and a stream of messages
-    // after it are answered to their end.
+    // after it are answered to their end, or to a call whose outputs can't wait together.
     ensures complete { (folder : List ℕ) (uid : ℕ) (bytes : List ℕ)
         → IsCommandLine (CommandLine.Stdio folder uid) words.now
         → IsWholeInput uid seed bytes → I.left input.old ≡ Some bytes
         → IsTrue (H.is_steady host.old)
         → StandsStill (I.faults input.old) (I.faults input.new)
         → StandsStill (O.faults output.old) (O.faults output.new)
-        → (result ≡ Status.Done) ⊎ (result ≡ Status.Memory) }
+        → (result ≡ Status.Done) ⊎ ((result ≡ Status.Memory) ⊎ (result ≡ Status.Overrun)) }
 
     // `check` reads a password at most, before it opens the folder, and writes the report of the folder's files, or a
     // prefix of it. It only looks at the folder: what is left of it, and each slot that was made of it, is untouched.

@@ -37,7 +37,7 @@ fn hub_over<R: Wait + Copy, F: Folder, C: Clock>(
     seed: [u8; 32],
     clock: C,
 ) -> Result<ServiceHub<R, F, C>, OutOfMemory>
-    ensures pass { IfOk result (λ hub. hub.pass ≡ opened hub.pass.table
+    ensures pass { IfOk result (λ hub. hub.pass ≡ opened hub.pass.home.table
         (is_steady F.is_steady F.Cell.is_steady service.disk) service.history.window) }
     ensures uid { IfOk result (λ hub. hub.uid ≡ uid) }
     ensures guid { IfOk result (λ hub. hub.guid ≡ guid seed) }

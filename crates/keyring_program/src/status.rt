@@ -37,6 +37,9 @@ pub enum Status {
     ListenFault,
     /// The service has recorded as many events as it can count (`most_events` of service_machine).
     EventsSpent,
+    /// `stdio`: what a call or its key put out has more bytes than may wait for a connection
+    /// (docs/SERVICE.md, "Limits"). What could wait was written.
+    Overrun,
     /// The first 4,096 bytes of the input, whose first line is the password, have no line feed.
     PasswordTooLong,
 }
@@ -57,7 +60,8 @@ impl Status {
             End::WriteFault => Status::WriteFault,
             End::EventsSpent => Status::EventsSpent,
             End::Memory => Status::Memory,
-            End::OtherEnded | End::Overrun => unreachable!(),
+            End::Overrun => Status::Overrun,
+            End::OtherEnded => unreachable!(),
         }
     }
 
@@ -113,6 +117,7 @@ impl Status {
             Status::ListenFault => 10,
             Status::EventsSpent => 11,
             Status::PasswordTooLong => 13,
+            Status::Overrun => 18,
         }
     }
 }
@@ -133,6 +138,7 @@ impl fmt::Display for Status {
             Status::Memory => f.write_str("out of memory"),
             Status::ListenFault => f.write_str("socket failed"),
             Status::EventsSpent => f.write_str("events spent"),
+            Status::Overrun => f.write_str("outputs lost"),
             Status::PasswordTooLong => f.write_str("password too long"),
         }
     }

@@ -68,12 +68,12 @@ pub fn run_stdio<R: AllocGlobal + Wait, I: Source, O: Sink, H: Host>(
         (H.is_steady host.old) contents result) }
 
     // Over a host that never fails and streams that didn't, an open handshake and a stream of messages
-    // after it are answered to their end.
+    // after it are answered to their end, or to a call whose outputs can't wait together.
     ensures complete { (bytes : List ℕ) → IsWholeInput uid seed bytes
         → I.left input.old ≡ Some bytes → IsTrue (H.is_steady host.old)
         → StandsStill (I.faults input.old) (I.faults input.new)
         → StandsStill (O.faults output.old) (O.faults output.new)
-        → (result ≡ Status.Done) ⊎ (result ≡ Status.Memory) }
+        → (result ≡ Status.Done) ⊎ ((result ≡ Status.Memory) ⊎ (result ≡ Status.Overrun)) }
 {
     match open_service(rt.alloc(), host, folder) {
         Ok(service) => {

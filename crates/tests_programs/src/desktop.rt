@@ -36,7 +36,14 @@ KEPTUSER [6c0201013a0000000000000010000000050175000000000008016700026f6f002e0000
 FOUNDUSER [6c0201013c000000000000001200000005017500000000000801670004]aoao[00000000000000330000002e\
 000000]/org/freedesktop/secrets/collection/login/~~~~[000000000000]
 USERSECRET [6c02010147000000000000001600000005017500000000000801670008](oayays)[00000023000000]/org\
-/freedesktop/secrets/session/s1[000000000008000000]pass~~~~[0a000000]text/plain[00]";
+/freedesktop/secrets/session/s1[000000000008000000]pass~~~~[0a000000]text/plain[00]
+NEWUSER [6c04010133000000000000008700000001016f0029000000]/org/freedesktop/secrets/collection/login\
+[000000000000000201730021000000]org.freedesktop.Secret.Collection[00000000000000030173000b000000]It\
+emCreated[000000000008016700016f00002e000000]/org/freedesktop/secrets/collection/login/~~~~[00]
+NEWITEMS [6c0401013e000000000000008e00000001016f0029000000]/org/freedesktop/secrets/collection/logi\
+n[00000000000000020173001f000000]org.freedesktop.DBus.Properties[000301730011000000]PropertiesChang\
+ed[000000000000000801670008]sa{sv}as[00000021000000]org.freedesktop.Secret.Collection[0000000000000\
+0000000000a00000005000000]Items[00]";
 
 // The file `login.keyring` with the password `sesame`, as another program wrote it. Its one item is 1000, which two programs may
 // access.
@@ -56,8 +63,8 @@ const BEGIN: &str = "\
 HELLO REGISTER PLAIN@8:02 UNLOCK@8:03@164:6c6f67696e PROMPT@8:04 ANSWERSESAME";
 
 const BEGUN: &str = "\
-OK PONG@8:01@20:01 SESSION@8:02@20:02 BEGUN@8:03@20:03 PONG@8:04@20:04 ASKOTHER@8:05@184:4c6f67696e \
-PONG@8:06@20:05 OPENEDLOGIN@8:07";
+OK PONG@8:01@20:01 SESSION@8:02@20:02 BEGUN@8:03@20:03 PONG@8:04@20:04 ASKOTHER@8:05@184:4c6f67696\
+e PONG@8:06@20:05 CHANGELOGIN@8:07 LOCKLOGIN@8:08@224:00 OPENEDLOGIN@8:09";
 
 // Fills in the digits of an item.
 fn fill(bytes: &mut [u8], digits: &[u8]) {
@@ -95,7 +102,14 @@ fn put_calls(
     Ok(())
 }
 
-// Appends the answer to each of the calls. Two signals came before the first.
+// Appends an output with its serial.
+fn put_output(output: &mut Vec<u8>, bytes: Vec<u8>, serial: u16) -> Result<(), Fail> {
+    let mut bytes = bytes;
+    change(&mut bytes, 8, serial.to_le_bytes().as_slice());
+    Ok(output.extend_from_slice(bytes.as_slice())?)
+}
+
+// Appends the answer to each of the calls. Four signals came before the first.
 fn put_answers(
     alloc: Global,
     output: &mut Vec<u8>,
@@ -106,13 +120,30 @@ fn put_answers(
     let part = bytes_of(alloc, name)?;
     for serial in serials {
         let mut answer = filled(alloc, part.as_slice(), serial, more)?;
-        change(
-            &mut answer,
-            8,
-            serial.saturating_add(2).to_le_bytes().as_slice(),
-        );
         change(&mut answer, 20, serial.to_le_bytes().as_slice());
-        output.extend_from_slice(answer.as_slice())?;
+        put_output(output, answer, serial.saturating_add(4))?;
+    }
+    Ok(())
+}
+
+// Appends the answers to calls that keep an item each, and the two signals of the item after each of them.
+fn put_kept(
+    alloc: Global,
+    output: &mut Vec<u8>,
+    serials: Range<u16>,
+    more: u16,
+) -> Result<(), Fail> {
+    let (kept, new) = (bytes_of(alloc, "KEPTUSER")?, bytes_of(alloc, "NEWUSER")?);
+    let items = bytes_of(alloc, "NEWITEMS")?;
+    let mut next = serials.start.saturating_add(4);
+    for serial in serials {
+        let mut answer = filled(alloc, kept.as_slice(), serial, more)?;
+        change(&mut answer, 20, serial.to_le_bytes().as_slice());
+        put_output(output, answer, next)?;
+        let signal = filled(alloc, new.as_slice(), serial, more)?;
+        put_output(output, signal, next.saturating_add(1))?;
+        put_output(output, items.to_vec(alloc)?, next.saturating_add(2))?;
+        next = next.saturating_add(3);
     }
     Ok(())
 }
@@ -149,7 +180,7 @@ where
     let mut input = bytes_of(rt.alloc(), BEGIN)?;
     let mut wanted = bytes_of(rt.alloc(), BEGUN)?;
     put_calls(rt.alloc(), &mut input, "KEEPUSER", 6..205, 995)?;
-    put_answers(rt.alloc(), &mut wanted, "KEPTUSER", 6..205, 995)?;
+    put_kept(rt.alloc(), &mut wanted, 6..205, 995)?;
     is_written(rt, host, input.as_slice(), wanted.as_slice(), "199 items")
 }
 

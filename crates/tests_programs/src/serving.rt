@@ -67,7 +67,7 @@ fn answered(rt: &HostRuntime, stream: &mut UnixStream, input: &[u8]) -> Option<V
     Some(output)
 }
 
-// Two connections, of which the one that came first is silent until the other has been served.
+// Two connections; the one that came first is silent until the other has been served.
 fn talks(rt: &HostRuntime, first_input: &[u8], second_input: &[u8]) -> Option<(Vec<u8>, Vec<u8>)> {
     let mut first = connected(rt)?;
     let mut second = connected(rt)?;

@@ -4,8 +4,9 @@ use Rattle.load_plan.specs.Answered.{CountsReplies}
 use Rattle.load_plan.specs.Plan.{plan}
 use Rattle.load_plan.specs.Sending.{conversation}
 use Rattle.keyring_program.specs.Loads.{the_user}
+use Rattle.keyring_program.specs.Serves.{handshake_run}
 use Rattle.keyring_program.specs.WholeInput.{IsWholeInput}
-use Rattle.keyring_program.proofs.LoadLemmas.{counts-are, load-whole, loads}
+use Rattle.keyring_program.proofs.LoadLemmas.{counts-are, load-fits, load-whole, loads}
 use Rattle.keyring_program.proofs.load.lines.Goals as goal
 
 -- the bytes are a whole input
@@ -17,6 +18,8 @@ talk-requires g c =
       whole = subst (IsWholeInput the_user c.args.seed) (sym sent)
           (load-whole c.args.items c.args.number c.requires.few c.a_load_is_read_whole.ensures.opened c.a_load_is_read_whole.ensures.stream c.args.seed c.a_load_has_few_events.ensures.bytes
           c.a_load_has_few_events.ensures.requests c.a_load_has_few_events.ensures.events);
+      fit = λ bytes is. load-fits c.args.items c.args.number c.requires.few c.a_load_is_read_whole.ensures.opened c.a_load_is_read_whole.ensures.stream c.args.seed c.a_load_is_read_whole.ensures.first
+          c.a_load_loses_no_output.ensures bytes (ap (λ l. (handshake_run the_user c.args.seed l).end) (sym sent) ∙ is);
     }
 
 -- the numbers are those of all items
