@@ -39,9 +39,11 @@ static unsigned long long now(void) {
     clock_gettime(CLOCK_MONOTONIC, &it);
     return it.tv_sec * 1000000000ull + it.tv_nsec;
 }
-/* sends the calls one after the other, and gives how many returns there were, or -1 if the other end failed */
-long talk(int from, int to, const unsigned char *calls, long count, unsigned long long *took, unsigned char *room, long size) {
-    long returns = 0, held = 0;
+/* sends the calls one after the other, and gives how many returns there were, or -1 if the other end failed; `room` begins with
+   the `kept` bytes that have come already, and ends with those that came behind the last reply */
+long talk(int from, int to, const unsigned char *calls, long count, unsigned long long *took, unsigned char *room, long size,
+          long *kept) {
+    long returns = 0, held = *kept;
     for (long i = 0; i < count; i++) {
         long left = length_of(calls);
         unsigned serial = number(calls + 8);
@@ -70,7 +72,8 @@ long talk(int from, int to, const unsigned char *calls, long count, unsigned lon
         }
         took[i] = now() - begin;
     }
-    return held ? -1 : returns;
+    *kept = held;
+    return returns;
 }
 """
 
@@ -81,7 +84,8 @@ def library(folder):
     run(["gcc", "-O2", "-shared", "-fPIC", "-o", folder / "talk.so", folder / "talk.c"])
     talk = ctypes.CDLL(str(folder / "talk.so")).talk
     talk.restype = ctypes.c_long
-    talk.argtypes = [ctypes.c_int, ctypes.c_int, ctypes.c_char_p, ctypes.c_long, ctypes.c_void_p, ctypes.c_void_p, ctypes.c_long]
+    talk.argtypes = [ctypes.c_int, ctypes.c_int, ctypes.c_char_p, ctypes.c_long, ctypes.c_void_p, ctypes.c_void_p, ctypes.c_long,
+                     ctypes.c_void_p]
     return talk
 
 
@@ -245,8 +249,10 @@ class Client:
 
     def talk_through(self, calls):
         """The nanoseconds from each call to its reply, which must be a return."""
-        took = (ctypes.c_ulonglong * len(calls))()
-        returns = self.talk(self.source, self.target, b"".join(calls), len(calls), took, self.room, self.size)
+        took, kept = (ctypes.c_ulonglong * len(calls))(), ctypes.c_long(len(self.held))
+        ctypes.memmove(self.room, self.held, len(self.held))
+        returns = self.talk(self.source, self.target, b"".join(calls), len(calls), took, self.room, self.size, ctypes.byref(kept))
+        self.held = self.room.raw[:kept.value] if kept.value else b""
         if returns != len(calls):
             sys.exit(f"scripts/bench: {returns} of {len(calls)} calls had a return")
         return list(took)

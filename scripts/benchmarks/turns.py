@@ -5,8 +5,8 @@ import time
 from benchmarks.shared import ROOT, best, c_program, lines_of, processor_time, rattle_program, run
 
 TURN_PROGRAM = """//! `turns`: threads that change a number by turns, so often together; prints the fewest changes of a thread, and the most.
-//! `alone`: the same without turns. `waits`: one thread keeps the turn for two seconds, one waits for the turn meanwhile,
-//! and one until the number is changed.
+//! `alone`: the same without turns. `waits`: one thread keeps the turn for two seconds, and one waits for the
+//! turn meanwhile.
 #![tactic(auto)]
 
 ghost use Rattle.std.specs.Prelude.{◌≡◌, ◌+◌, ◌<◌, ◌∷◌, [], length, true, false, Some};
@@ -133,16 +133,6 @@ impl<R: Wait> Caller<R> {
         self.turn.give_back(pass, tally);
         count
     }
-
-    // Sleeps until it was changed.
-    fn wait(&mut self, rt: &R) {
-        for _ in rt.forever() {
-            if self.count() > 0 {
-                return;
-            }
-            self.turn.sleep(rt, 0);
-        }
-    }
 }
 
 fn callers<R: Wait + Copy + Drop>(rt: R, alloc: Global, threads: usize) -> Option<Vec<Caller<R>>> {
@@ -211,14 +201,13 @@ fn waits<R: Wait + Threads + Clock + Copy + Drop + Send + Sync>(
     rt: R,
     alloc: Global,
 ) -> Option<()> {
-    let mut callers = callers(rt, alloc, 3)?;
+    let mut callers = callers(rt, alloc, 2)?;
     thread::for_each_mut(
         &rt,
         callers.as_mut_slice(),
-        3,
+        2,
         &|place, caller| match place {
-            0 => caller.wait(&rt),
-            1 => caller.keep(&rt),
+            0 => caller.keep(&rt),
             _ => caller.follow(&rt),
         },
     );
@@ -579,7 +568,7 @@ def measure_turn(folder):
             fewest, most = counts.split()
             print(f"{name}, {work}: eight threads have {one / took[name]:.2f} of the turns per second of one; one of them had {fewest}, another {most}")
         print(f"  turns take {took['turns'] / took['a mutex']:.2f} of the time with a mutex")
-    print(f"two threads that wait for two seconds, and the one that they wait for: {spent([turn, 'waits']) / 2:.4f} of a processor")
+    print(f"a thread that waits for two seconds, and the one that it waits for: {spent([turn, 'waits']) / 2:.4f} of a processor")
 
 
 def measure_service(folder):
