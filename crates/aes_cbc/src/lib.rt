@@ -6,13 +6,13 @@
 #![tactic(auto)]
 
 mod cipher;
+mod cipher_laws;
 mod decrypting_tables;
 mod encrypting_tables;
 mod inverse_cipher;
 mod key;
-mod laws;
 mod schedule;
 mod state;
 
+pub use cipher_laws::{decrypting_undoes_encrypting, encrypting_undoes_decrypting};
 pub use key::Key;
-pub use laws::{decrypting_undoes_encrypting, encrypting_undoes_decrypting};

@@ -6,13 +6,13 @@
 //! new one; a doubt is resolved before anything is stored.
 #![tactic(auto)]
 
+mod alias_laws;
 mod change;
-mod laws;
 mod next;
 mod refused;
 mod table;
 
+pub use alias_laws::{a_set_alias_is_read, other_aliases_stay};
 pub use change::AliasChange;
-pub use laws::{a_set_alias_is_read, other_aliases_stay};
 pub use refused::AliasRefused;
 pub use table::AliasTable;

@@ -5,14 +5,14 @@
 //! read as exactly these aliases.
 #![tactic(auto)]
 
-mod laws;
 mod line;
 mod pairs;
+mod text_laws;
 mod writing;
 
-pub use laws::{
+pub use pairs::{LONGEST, read_aliases};
+pub use text_laws::{
     a_thousand_aliases_fit, bytes_give_one_list, what_is_read_can_be_written,
     what_is_written_is_read,
 };
-pub use pairs::{LONGEST, read_aliases};
 pub use writing::write_aliases;

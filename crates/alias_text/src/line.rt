@@ -1,6 +1,6 @@
 // One line of the text.
 ghost use Rattle.std.specs.Prelude.{◌≢◌, IfOk, MatchOption, All};
-ghost use Rattle.kr_names.specs.Reading.{Reads};
+ghost use Rattle.kr_names.specs.Reads.{Reads};
 ghost use Rattle.alias_text.specs.Line.{IsCut, IsPair};
 
 use kr_base::{OutOfMemory, Stem, Text};

@@ -9,11 +9,11 @@ mod branch;
 mod chain;
 mod entries;
 mod finding;
+mod height_laws;
 mod index;
 mod keys;
-mod laws;
 mod names;
 mod pairs;
 
+pub use height_laws::few_pairs_have_few_levels;
 pub use index::AttributeIndex;
-pub use laws::few_pairs_have_few_levels;

@@ -6,14 +6,14 @@
 #![tactic(auto)]
 
 mod address;
+mod address_laws;
 mod bus_name;
 mod entry;
-mod laws;
 mod pairs;
 mod pieces;
 mod value;
 
 pub use address::read_address;
+pub use address_laws::pieces_are_joined_by_the_separator;
 pub use bus_name::is_well_known_name;
 pub use entry::Place;
-pub use laws::pieces_are_joined_by_the_separator;

@@ -3,7 +3,7 @@
 use Rattle.std.specs.Prelude.{ℕ, nat_lt, nat_le, if◌then◌else◌, List, length, take, drop, slice_index, Option, None, Some, Result, Ok, Err}
 use Rattle.std.specs.Result.{result_ok}
 use Rattle.dbus_types.specs.declared.endian.Endian.{Endian}
-use Rattle.dbus_marshal.specs.Reading.{values_at}
+use Rattle.dbus_marshal.specs.Unmarshal.{values_at}
 use Rattle.dbus_framing.specs.declared.head.Head.{Head}
 use Rattle.dbus_framing.specs.declared.violation.Violation.{Violation}
 use Rattle.dbus_framing.specs.declared.violation.Violation.TheVariants as violation

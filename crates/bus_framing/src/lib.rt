@@ -8,9 +8,9 @@
 
 mod framer;
 mod heard;
-mod laws;
+mod hearing_laws;
 mod looking;
 
 pub use framer::LinkFramer;
 pub use heard::{BodyFault, Headed, Heard};
-pub use laws::what_is_heard_does_not_depend_on_cuts;
+pub use hearing_laws::what_is_heard_does_not_depend_on_cuts;

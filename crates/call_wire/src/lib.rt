@@ -10,18 +10,18 @@ mod collection;
 mod interfaces;
 mod item;
 mod keyring;
-mod laws;
 mod members;
 mod peer;
 mod prompt;
 mod properties;
 mod reading;
+mod request_laws;
 mod service;
 mod session;
 mod writing;
 
-pub use laws::{a_message_is_one_request, what_is_sent_is_read_again};
 pub use reading::call_of;
+pub use request_laws::{a_message_is_one_request, what_is_sent_is_read_again};
 pub use writing::message_of;
 
 /// No memory was left for a call. It is the only refusal that may come at any time.

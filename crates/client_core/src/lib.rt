@@ -17,7 +17,7 @@ mod askable;
 mod asking;
 mod bodies;
 mod bytes;
-mod laws;
+mod client_laws;
 mod properties;
 mod reply;
 mod secrets;
@@ -25,7 +25,7 @@ mod signals;
 
 pub use askable::can_be_asked;
 pub use bytes::{BytesRefused, MOST_BYTES, bytes_of};
-pub use laws::{
+pub use client_laws::{
     a_call_is_read_again, a_signal_is_read_again, what_the_service_sends_is_read_again,
 };
 pub use reply::{Reply, ReplyFault, Shape, reply_of, shape_of};

@@ -1,10 +1,10 @@
 -- The clear part of a file that was opened.
 use Rattle.std.proofs.Common.{◌≡◌, ℕ, ◌≤◌, List, Result, Ok, Err, refl, ap, sym, ◌∙◌}
 use Rattle.keyring_text.specs.Fields.{IsBytes}
-use Rattle.keyring_text.specs.Reading.{◌>>=◌}
+use Rattle.keyring_text.specs.FieldReading.{◌>>=◌}
 use Rattle.keyring_file.specs.Clear.{ClearPart}
 use Rattle.keyring_file.specs.ClearText.{ClearText, HasClear, most_iterations}
-use Rattle.keyring_file.specs.Reading.{clear_read}
+use Rattle.keyring_file.specs.FileReading.{clear_read}
 use Rattle.keyring_file.specs.declared.area.FullItem.{FullItem}
 use Rattle.keyring_file.specs.declared.fault.AreaFault.{AreaFault}
 use Rattle.keyring_file.specs.declared.fault.ClearFault.{ClearFault}

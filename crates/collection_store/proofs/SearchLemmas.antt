@@ -19,7 +19,7 @@ use Rattle.keyring_file.specs.Clear.{ClearPart}
 use Rattle.keyring_seal.specs.Arranged.{Row, row_number}
 use Rattle.keyring_seal.proofs.RisingLemmas.{IsRising, rising_by_place}
 use Rattle.replace_slot.specs.Cell.{File, Known, Doubt}
-use Rattle.collection_store.specs.Reading.{content_at, found, item_at}
+use Rattle.collection_store.specs.CollectionReading.{content_at, found, item_at}
 use Rattle.collection_store.specs.State.{IsOpenedFile, held_of, ids_of}
 
 equal_at : (a b : ℕ) → nat_cmp a b ≡ Equal → a ≡ b

@@ -22,7 +22,7 @@ use Rattle.replace_slot.specs.declared.images.Found.TheVariants.{Old, New, Other
 use Rattle.keyring_file.specs.Clear.{ClearPart}
 use Rattle.keyring_file.specs.declared.clear.ClearItem.{ClearItem}
 use Rattle.keyring_seal.proofs.RisingLemmas.{rising_by_number, rising_by_place}
-use Rattle.collection_store.specs.Reading.{Opens, content_at}
+use Rattle.collection_store.specs.CollectionReading.{Opens, content_at}
 use Rattle.collection_store.specs.Resting.{undone}
 use Rattle.collection_store.specs.Storing.{IsReady, finished_open, parts_of, undone_open}
 use Rattle.collection_store.specs.declared.candidate.Frame.{Frame}

@@ -3,7 +3,7 @@ pub mod Copying
 pub mod Outcomes
 pub mod Parts
 pub mod Preparing
-pub mod Reading
+pub mod CollectionReading
 pub mod Resting
 pub mod State
 pub mod Storable

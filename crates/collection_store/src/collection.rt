@@ -12,7 +12,7 @@ ghost use Rattle.replace_slot.specs.Cell.{Known, Doubt, FailedAfter, FailedBefor
 ghost use Rattle.replace_slot.specs.Found.{IsFoundBy, IsFoundOf, Shows as ShowsBytes, found_file};
 ghost use Rattle.collection_store.specs.Changes.{content_created, content_rekeyed};
 ghost use Rattle.collection_store.specs.Outcomes.{IfFaultBefore, IfFaultUnsure, IfNoMemory, IfTooLarge, IsChanged, IsCreateFault, IsFault, IsNewImage, IsOldOrNew, IsOldOrSealed, IsSame, IsStored, IsTooLarge, IsTooLargeOrNoMemory, IsUnsure, MayBeChanged, made_of, most_for, slot_of};
-ghost use Rattle.collection_store.specs.Reading.{Fits, Opens, Unlocks, content_at, found as found_in, item_at};
+ghost use Rattle.collection_store.specs.CollectionReading.{Fits, Opens, Unlocks, content_at, found as found_in, item_at};
 ghost use Rattle.collection_store.specs.State.{HasMostItems, IsHeld, IsNewer, Shows, by_id, has_image as has_image_of, most_items, shown_image, shown_of, told_after};
 ghost use Rattle.collection_store.specs.Storable.{EndsAs, answer_of, storable};
 

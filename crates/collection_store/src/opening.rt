@@ -8,7 +8,7 @@ ghost use Rattle.key_derivation.specs.Kdf.{key_of, vector_of};
 ghost use Rattle.keyring_file.specs.Clear.{ClearPart};
 ghost use Rattle.keyring_seal.specs.Arranged.{IsSealable, arranged_rows, hashed_row};
 ghost use Rattle.keyring_seal.specs.Whole.{IsFileOf, opened};
-ghost use Rattle.collection_store.specs.Reading.{Unlocks};
+ghost use Rattle.collection_store.specs.CollectionReading.{Unlocks};
 ghost use Rattle.collection_store.specs.State.{AreParts, IsById, by_id, ids_of, rows_with, without_hashes};
 ghost use Rattle.collection_store.specs.Parts.{OpensIn};
 ghost use Rattle.keyring_seal.specs.Told.{HasSorted};

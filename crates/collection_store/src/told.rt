@@ -2,7 +2,7 @@ ghost use Rattle.std.specs.Prelude.{◌≡◌, IfOk, IfSome, map};
 ghost use Rattle.std.specs.Option.{option_copied};
 ghost use Rattle.hashed_index.specs.Entries.{IsIndexOf};
 ghost use Rattle.hashed_index.specs.Matching.{matching_ids};
-ghost use Rattle.collection_store.specs.Reading.{content_at};
+ghost use Rattle.collection_store.specs.CollectionReading.{content_at};
 ghost use Rattle.collection_store.specs.State.{IsById, by_id};
 
 use crate::order::in_order;

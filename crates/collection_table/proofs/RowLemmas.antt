@@ -17,7 +17,7 @@ use Rattle.collection_store.specs.Changes.{content_changed}
 use Rattle.collection_store.specs.Outcomes.{IsChanged, IsSame, IsStored, IsUnsure, MayBeChanged}
 use Rattle.collection_store.specs.declared.change.Change.{Change}
 use Rattle.collection_store.specs.declared.change.Changed.{Changed}
-use Rattle.collection_store.specs.Reading.{content_at, item_at}
+use Rattle.collection_store.specs.CollectionReading.{content_at, item_at}
 use Rattle.collection_store.specs.State.{CollectionState, HasMostItems, Held, by_id, most_items}
 use Rattle.folder_store.specs.Ring.{RingState}
 use Rattle.collection_table.specs.Changing.{after_change, after_unsure, made_perhaps, made_stored}

@@ -12,7 +12,7 @@ use Rattle.keyring_seal.specs.Arranged.{rows as rows_of_content}
 use Rattle.keyring_seal.specs.Whole.{sealed}
 use Rattle.keyring_seal.specs.declared.content.Content.{Content}
 use Rattle.folder_store.specs.Limits.{the_limits}
-use Rattle.collection_store.specs.Reading.{content_at, found, item_at}
+use Rattle.collection_store.specs.CollectionReading.{content_at, found, item_at}
 use Rattle.collection_store.specs.State.{HasMostItems, Held, most_items}
 use Rattle.collection_table.specs.declared.matches.Matches.{Matches}
 

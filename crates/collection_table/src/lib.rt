@@ -6,14 +6,14 @@
 #![tactic(auto)]
 
 mod entries;
-mod laws;
 mod matches;
+mod row_laws;
 mod table;
 
-pub use laws::{
+pub use matches::Matches;
+pub use row_laws::{
     a_change_leaves_its_row, a_changed_collection_changes_its_row,
     a_changed_collection_changes_its_slot, a_removal_leaves_its_row, a_stored_content_is_a_row,
     other_collections_stay,
 };
-pub use matches::Matches;
 pub use table::CollectionTable;

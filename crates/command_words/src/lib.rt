@@ -8,9 +8,9 @@ mod arguments;
 mod beginning;
 mod command_line;
 mod commands;
-mod laws;
+mod line_laws;
 mod numbers;
 
 pub use command_line::CommandLine;
 pub use commands::read_words;
-pub use laws::words_are_one_command_line;
+pub use line_laws::words_are_one_command_line;

@@ -35,7 +35,7 @@ use Rattle.service_desk.specs.service_tables.specs.Connections.{has, size_of, si
 use Rattle.service_desk.specs.service_tables.specs.Limits.{most_weight}
 use Rattle.service_desk.specs.service_tables.specs.Opened.{contents_of}
 use Rattle.service_desk.specs.service_tables.specs.Questions.{CollectionQuestions}
-use Rattle.service_desk.specs.service_tables.specs.Reading.{asked_collections}
+use Rattle.service_desk.specs.service_tables.specs.TablesReading.{asked_collections}
 use Rattle.service_desk.specs.service_tables.specs.Sent.{Everyone, One, Recipient, Sent, is_for}
 use Rattle.service_desk.specs.service_tables.specs.Sound.{IsSound, IsSoundKind, IsSoundPrompt}
 use Rattle.service_desk.specs.service_tables.specs.State.{State}

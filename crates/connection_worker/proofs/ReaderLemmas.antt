@@ -32,7 +32,7 @@ use Rattle.connection_worker.specs.declared.ending.End.TheVariants as end
 use Rattle.connection_worker.specs.Answering.{IsOne}
 use Rattle.connection_worker.specs.Arrivals.{calls_in, AllRequests, FirstRequests}
 use Rattle.connection_worker.specs.Handshakes.{most_bytes}
-use Rattle.connection_worker.specs.Reading.{Handled, all_asked, own_events, all_events, HasKey, AreKeyed, HandedIn, RefusedFor, ReadFor, HasLeft, ReaderEnds, end_for, StopsAt, IsOnly, HandsIn, HandsInMessage, HandedSoFar, HandsInAll, ReadSoFar, ReadsOn}
+use Rattle.connection_worker.specs.Reader.{Handled, all_asked, own_events, all_events, HasKey, AreKeyed, HandedIn, RefusedFor, ReadFor, HasLeft, ReaderEnds, end_for, StopsAt, IsOnly, HandsIn, HandsInMessage, HandedSoFar, HandsInAll, ReadSoFar, ReadsOn}
 use Rattle.connection_worker.specs.Salts.{words_at}
 use Rattle.connection_worker.specs.Serving.{World, place_of, behind_salt}
 use Rattle.connection_worker.specs.ServingOn.{FeedsMore}

@@ -37,7 +37,7 @@ use Rattle.service_desk.specs.service_events.proofs.RunLemmas.{keeps-run, plan_f
 use Rattle.connection_worker.specs.Replies.{is_reply, key_outputs}
 use Rattle.connection_worker.proofs.ServingLemmas.{same}
 use Rattle.service_desk.specs.service_tables.specs.Opened.{contents_of}
-use Rattle.service_desk.specs.service_tables.specs.Reading.{asked_collections}
+use Rattle.service_desk.specs.service_tables.specs.TablesReading.{asked_collections}
 
 -- each of them is a signal
 abbrev pub AreSignals : List Sent → Type 0

@@ -12,7 +12,7 @@ use Rattle.connection_worker.specs.declared.ending.End.{End}
 use Rattle.connection_worker.specs.declared.ending.End.TheVariants as end
 use Rattle.connection_worker.specs.Causes.{IsViolated}
 use Rattle.connection_worker.specs.Handshakes.{most_bytes}
-use Rattle.connection_worker.specs.Reading.{ReadFor, IsWholeEnd}
+use Rattle.connection_worker.specs.Reader.{ReadFor, IsWholeEnd}
 use Rattle.connection_worker.specs.Streams.{Input, Took}
 
 -- a count that stays the same didn't rise

@@ -8,7 +8,7 @@ pub mod Fitting
 pub mod Handshakes
 pub mod Lines
 pub mod OneThread
-pub mod Reading
+pub mod Reader
 pub mod Replies
 pub mod Salts
 pub mod Sending

@@ -9,7 +9,6 @@
 #![tactic(auto)]
 
 mod ending;
-mod laws;
 mod lines;
 mod opening;
 mod outs;
@@ -17,19 +16,20 @@ mod reading;
 mod salts;
 mod serials;
 mod serving;
+mod serving_laws;
 mod single;
 mod writing;
 
 pub use call_wire;
 pub use ending::End;
-pub use laws::{
-    complete_messages_are_read_to_their_end, each_request_has_one_reply,
-    each_request_is_answered_at_once, no_reply_is_lost, short_announcements_fit,
-    what_is_given_was_taken,
-};
 pub use opening::handshake;
 pub use reading::read_side;
 pub use salts::{Salts, next_cells};
 pub use service_desk;
+pub use serving_laws::{
+    complete_messages_are_read_to_their_end, each_request_has_one_reply,
+    each_request_is_answered_at_once, no_reply_is_lost, short_announcements_fit,
+    what_is_given_was_taken,
+};
 pub use single::one_thread;
 pub use writing::write_side;

@@ -2,7 +2,7 @@
 ghost use Rattle.std.specs.Prelude.{◌≡◌, length, IsFalse};
 ghost use Rattle.dbus_framing.specs.Messages.{parts_of};
 ghost use Rattle.connection_worker.specs.Handshakes.{most_bytes};
-ghost use Rattle.connection_worker.specs.Reading.{end_for, HandsIn, HandsInMessage, HandsInAll, ReadsOn, ReaderEnds};
+ghost use Rattle.connection_worker.specs.Reader.{end_for, HandsIn, HandsInMessage, HandsInAll, ReadsOn, ReaderEnds};
 ghost use Rattle.connection_worker.specs.Serving.{world};
 ghost use Rattle.connection_worker.specs.Streams.{input_of, most_read};
 

@@ -8,7 +8,7 @@ use Rattle.connection_worker.specs.service_desk.specs.Places.{Told, place}
 use Rattle.connection_worker.specs.service_desk.specs.Views.{View}
 use Rattle.connection_worker.specs.declared.ending.End.{End}
 use Rattle.connection_worker.specs.Handshakes.{Both, HandshakeOutcome}
-use Rattle.connection_worker.specs.Reading.{ReaderEnds}
+use Rattle.connection_worker.specs.Reader.{ReaderEnds}
 use Rattle.connection_worker.specs.Salts.{Salting}
 use Rattle.connection_worker.specs.Serving.{world}
 use Rattle.connection_worker.specs.Streams.{Input, Output, input_of, output_of}

@@ -9,11 +9,11 @@
 mod answer;
 mod auth;
 mod command;
-mod laws;
+mod handshake_laws;
 
 pub use answer::Answer;
 pub use auth::{Auth, AuthFault, LINE_LIMIT, State, Step};
-pub use laws::{
+pub use handshake_laws::{
     a_line_has_16_384_bytes_at_most, accepted_arguments, begins_with_zero, cut_anywhere,
     cut_at_the_first_line_end, each_answer_has_its_line, each_refusal_has_its_cause,
     lines_one_by_one, ok_answers_an_accepted_argument, ok_decides_begin, only_begin_opens,

@@ -13,10 +13,10 @@
 #![tactic(auto)]
 
 mod client;
+mod client_handshake_laws;
 mod hearing;
-mod laws;
 mod sent;
 
 pub use client::{Client, ClientFault, Turn};
-pub use laws::{client_cut_anywhere, our_server_accepts};
+pub use client_handshake_laws::{client_cut_anywhere, our_server_accepts};
 pub use sent::{BEGIN_LINE, DATA_LINE, opening};

@@ -4,7 +4,7 @@ use Rattle.std.specs.Prelude.{nat_lt, not, slice_index}
 use Rattle.std.specs.Result.{result_ok}
 use Rattle.dbus_types.specs.declared.endian.Endian.{Endian}
 use Rattle.dbus_types.specs.Values.{Vals}
-use Rattle.dbus_marshal.specs.Reading.{values_at}
+use Rattle.dbus_marshal.specs.Unmarshal.{values_at}
 use Rattle.dbus_framing.specs.declared.violation.Violation.{Violation}
 use Rattle.dbus_framing.specs.declared.violation.Violation.TheVariants as violation
 use Rattle.dbus_framing.specs.declared.head.Head.{Head}

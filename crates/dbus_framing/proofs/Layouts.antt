@@ -10,7 +10,7 @@ use Rattle.dbus_types.specs.Types.{Ty, Tys}
 use Rattle.dbus_types.specs.Values.{Val, Vals}
 use Rattle.dbus_marshal.specs.Wire.{padding, behind, zeros, number_bytes, number_from}
 use Rattle.dbus_marshal.specs.Marshals.{Marshals, AllMarshal}
-use Rattle.dbus_marshal.specs.Reading.{are_zero}
+use Rattle.dbus_marshal.specs.Unmarshal.{are_zero}
 use Rattle.dbus_marshal.proofs.Taking.{IsBytes, wide32}
 use Rattle.dbus_framing.specs.Messages.{Parts, IsHeaderAndBody, IsMessage, body_start, field_types, fields_end, header_types, header_values, word_at}
 use Rattle.dbus_framing.proofs.Readings.{IsBytes-drop, IsBytes-take}

@@ -9,7 +9,7 @@ use Rattle.dbus_types.specs.Types.{is_signature}
 use Rattle.dbus_types.specs.Values.{Vals}
 use Rattle.dbus_marshal.specs.declared.refused.ValueFault.{ValueFault}
 use Rattle.dbus_marshal.specs.Wire.{padding}
-use Rattle.dbus_marshal.specs.Reading.{are_zero, values_at}
+use Rattle.dbus_marshal.specs.Unmarshal.{are_zero, values_at}
 use Rattle.dbus_marshal.proofs.Taking.{IsBytes}
 use Rattle.dbus_marshal.proofs.AgainBasics.{at}
 use Rattle.dbus_marshal.proofs.UnmarshalLaws.{values_found, values_only}

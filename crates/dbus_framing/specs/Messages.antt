@@ -12,7 +12,7 @@ use Rattle.dbus_types.specs.Values.{Val, Vals}
 use Rattle.dbus_types.specs.ValueViews.{values_of}
 use Rattle.dbus_marshal.specs.Wire.{padding, zeros, number_from}
 use Rattle.dbus_marshal.specs.Marshals.{AreSpelled}
-use Rattle.dbus_marshal.specs.Reading.{are_zero, values_at}
+use Rattle.dbus_marshal.specs.Unmarshal.{are_zero, values_at}
 use Rattle.dbus_framing.specs.declared.violation.Violation.{Violation}
 use Rattle.dbus_framing.specs.declared.violation.Violation.TheVariants as violation
 use Rattle.dbus_framing.specs.declared.head.Head.{Head}

@@ -10,23 +10,23 @@
 mod framer;
 mod head;
 mod header;
-mod laws;
 mod names;
 mod opened;
 mod progress;
 mod reading;
+mod stream_laws;
 mod violation;
 
 pub use framer::Framer;
 pub use head::{Head, body_start, head_of, word_at};
 pub use header::{Header, has_needed};
-pub use laws::{
+pub use names::{is_interface_name, is_member_name};
+pub use reading::{FieldTypes, bodied, fields_at};
+pub use stream_laws::{
     a_message_has_one_meaning, a_message_is_a_header_and_a_body, a_spelling_begins_no_other,
     answers_add_up, answers_begin_the_stream, answers_begin_the_stream_of_any_pieces,
     bytes_are_one_stream, no_bytes_end_inside, violations_stay,
 };
-pub use names::{is_interface_name, is_member_name};
-pub use reading::{FieldTypes, bodied, fields_at};
 pub use violation::{FrameRefused, Violation};
 
 /// No memory was left for a call. This refusal alone may come at any time.

@@ -4,7 +4,7 @@ ghost use Rattle.std.specs.Result.{result_ok};
 ghost use Rattle.dbus_types.specs.Signatures.{Refuses};
 ghost use Rattle.dbus_types.specs.SignatureViews.{types_in};
 ghost use Rattle.dbus_types.specs.ValueViews.{values_of};
-ghost use Rattle.dbus_marshal.specs.Reading.{are_zero, values_at};
+ghost use Rattle.dbus_marshal.specs.Unmarshal.{are_zero, values_at};
 ghost use Rattle.dbus_framing.specs.HeaderViews.{fields_of};
 ghost use Rattle.dbus_framing.specs.Messages.{parts_of, field_types, word_at, body_start, size_at, fields_at, fielded_message, bodied_message, message_at, body_types};
 ghost use Rattle.dbus_framing.specs.Refusals.{Reads};

@@ -15,7 +15,7 @@ use Rattle.dbus_marshal.specs.declared.refused.ValueFault.{ValueFault}
 use Rattle.dbus_marshal.specs.declared.refused.ValueFault.TheVariants.{BadText, BadSignature}
 use Rattle.dbus_marshal.specs.Wire.{width_of, padding, behind, start_of, zeros, number_bytes, limit_of, is_text, IsTextOf}
 use Rattle.dbus_marshal.specs.Spelling.{aligned, number_spelled, text_spelled, spelled}
-use Rattle.dbus_marshal.specs.Reading.{Spot, bytes_at, are_zero, padding_at, number_at, basic_number_at, ended_at, string_at, path_at, listed, signature_value_at, basic_at}
+use Rattle.dbus_marshal.specs.Unmarshal.{Spot, bytes_at, are_zero, padding_at, number_at, basic_number_at, ended_at, string_at, path_at, listed, signature_value_at, basic_at}
 use Rattle.dbus_marshal.proofs.Taking.{IsWide, wide8, wide32}
 use Rattle.dbus_marshal.proofs.TakenBasics.{is_plain, plain_wide}
 

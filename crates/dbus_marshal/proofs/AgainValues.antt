@@ -14,7 +14,7 @@ use Rattle.dbus_marshal.specs.Limits.{array_limit}
 use Rattle.dbus_marshal.specs.Wire.{width_of, alignment_of, padding, behind, start_of, zeros, number_bytes, limit_of, is_byte, IsTextOf}
 use Rattle.dbus_marshal.specs.Fitting.{Fits, AllFit, EachFits}
 use Rattle.dbus_marshal.specs.Spelling.{aligned, text_spelled, array_spelled, first_at, spelled, all_spelled, is_short, are_short}
-use Rattle.dbus_marshal.specs.Reading.{Reader, Spot, signature_value_at, basic_at, variant_by, elements_from, elements_of, array_by, fields_by, struct_by, entry_by, value_at}
+use Rattle.dbus_marshal.specs.Unmarshal.{Reader, Spot, signature_value_at, basic_at, variant_by, elements_from, elements_of, array_by, fields_by, struct_by, entry_by, value_at}
 use Rattle.dbus_marshal.proofs.Taking.{wide8, wide16, wide32, wide64}
 use Rattle.dbus_marshal.proofs.AgainBasics.{at, behind_twice, bytes_again, padding_again, number_again, signature_again, basic_again, text_again}
 

@@ -12,7 +12,7 @@ use Rattle.dbus_marshal.specs.Wire.{behind}
 use Rattle.dbus_marshal.specs.Fitting.{HaveSpelling}
 use Rattle.dbus_marshal.specs.Marshals.{AreSpelled}
 use Rattle.dbus_marshal.specs.Spelling.{all_spelled, are_short}
-use Rattle.dbus_marshal.specs.Reading.{Spot, fields_by, value_at, values_at}
+use Rattle.dbus_marshal.specs.Unmarshal.{Spot, fields_by, value_at, values_at}
 use Rattle.dbus_marshal.proofs.Relation.{all_is, all_spelled_marshal}
 use Rattle.dbus_marshal.proofs.AgainBasics.{at}
 use Rattle.dbus_marshal.proofs.AgainValues.{readers_again, fields_again, signature_solid}

@@ -19,7 +19,7 @@ use Rattle.dbus_marshal.specs.declared.refused.ValueFault.TheVariants.{BadBool, 
 use Rattle.dbus_marshal.specs.Wire.{width_of, padding, zeros, number_bytes, limit_of, is_text}
 use Rattle.dbus_marshal.specs.Fitting.{Fits}
 use Rattle.dbus_marshal.specs.Spelling.{aligned, text_spelled, spelled, is_short}
-use Rattle.dbus_marshal.specs.Reading.{Spot, bytes_at, number_at, is_number, basic_number_at, ended_at, string_at, path_at, listed, signature_value_at, basic_at}
+use Rattle.dbus_marshal.specs.Unmarshal.{Spot, bytes_at, number_at, is_number, basic_number_at, ended_at, string_at, path_at, listed, signature_value_at, basic_at}
 use Rattle.dbus_marshal.proofs.Taking.{IsBytes, bind_ok, Takes, Takes-then, bytes_taken, number_taken, IsWide, wide8, wide16, wide32, wide64}
 
 -- ---- numbers

@@ -16,7 +16,7 @@ use Rattle.dbus_marshal.specs.declared.refused.ValueFault.TheVariants.{ArrayTooL
 use Rattle.dbus_marshal.specs.Wire.{alignment_of, padding, behind, start_of, zeros, number_bytes, is_byte, AreBytes}
 use Rattle.dbus_marshal.specs.Fitting.{AllFit, EachFits}
 use Rattle.dbus_marshal.specs.Spelling.{aligned, text_spelled, array_spelled, first_at, spelled, all_spelled, is_short, are_short}
-use Rattle.dbus_marshal.specs.Reading.{Reader, Spot, bytes_at, padding_at, number_at, signature_value_at, basic_at, only_type, variant_by, elements_from, elements_of, array_by, fields_by, struct_by, entry_by, value_at}
+use Rattle.dbus_marshal.specs.Unmarshal.{Reader, Spot, bytes_at, padding_at, number_at, signature_value_at, basic_at, only_type, variant_by, elements_from, elements_of, array_by, fields_by, struct_by, entry_by, value_at}
 use Rattle.dbus_marshal.proofs.Relation.{fits_type}
 use Rattle.dbus_marshal.proofs.Taking.{IsBytes, bind_ok, Takes, Takes-then, bytes_taken, padding_taken, number_taken, wide32}
 use Rattle.dbus_marshal.proofs.TakenBasics.{Took, value_is, signature_taken, basic_took}

@@ -11,7 +11,7 @@ use Rattle.dbus_marshal.specs.declared.refused.ValueFault.{ValueFault}
 use Rattle.dbus_marshal.specs.declared.refused.ValueFault.TheVariants.{Short, Padding}
 use Rattle.dbus_marshal.specs.Wire.{padding, behind, zeros, number_bytes, number_from}
 use Rattle.dbus_marshal.specs.Spelling.{aligned}
-use Rattle.dbus_marshal.specs.Reading.{Spot, further, bytes_at, padding_at, number_at, are_zero}
+use Rattle.dbus_marshal.specs.Unmarshal.{Spot, further, bytes_at, padding_at, number_at, are_zero}
 
 abbrev pub IsBytes : List ℕ → Type 0
 IsBytes bytes = (i : ℕ) → get_or bytes i 0 < 256

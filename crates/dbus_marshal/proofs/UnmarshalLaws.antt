@@ -15,7 +15,7 @@ use Rattle.dbus_marshal.specs.Counting.{counts}
 use Rattle.dbus_marshal.specs.Held.{all_parts}
 use Rattle.dbus_marshal.specs.Marshals.{AllMarshal, AreSpelled}
 use Rattle.dbus_marshal.specs.Spelling.{all_spelled}
-use Rattle.dbus_marshal.specs.Reading.{Reads, Spot, fields_by, value_at, values_at}
+use Rattle.dbus_marshal.specs.Unmarshal.{Reads, Spot, fields_by, value_at, values_at}
 use Rattle.dbus_marshal.proofs.Taking.{IsBytes, bind_ok}
 use Rattle.dbus_marshal.proofs.TakenValues.{takers, fields_took, TookAll}
 use Rattle.dbus_marshal.specs.Fitting.{AllFit, HaveSpelling}

@@ -19,7 +19,7 @@ use Rattle.dbus_marshal.specs.declared.refused.ValueFault.{ValueFault}
 use Rattle.dbus_marshal.specs.declared.refused.ValueFault.TheVariants.{Short, Padding, BadBool, BadText, BadPath, BadSignature, ArrayTooLong, TooDeep, Rest, OutOfMemory}
 use Rattle.dbus_marshal.specs.declared.cursor.Cursor.{Cursor}
 use Rattle.dbus_marshal.specs.Cursors.{spot_of}
-use Rattle.dbus_marshal.specs.Reading.{Refuses, Reads, Reader, Spot, further, bytes_at, padding_at, number_at, basic_number_at, elements_of, only_type, basic_at, value_at, variant_by, array_by, struct_by, entry_by, fields_by, elements_from, values_then, with_values, with_fields}
+use Rattle.dbus_marshal.specs.Unmarshal.{Refuses, Reads, Reader, Spot, further, bytes_at, padding_at, number_at, basic_number_at, elements_of, only_type, basic_at, value_at, variant_by, array_by, struct_by, entry_by, fields_by, elements_from, values_then, with_values, with_fields}
 
 -- a reading that returns each fault of another one returns the fault that the other one returns
 pub refuses_as : {Y Z : Type 0} (e : ValueFault) (read : Result Y ValueFault) (total : Result Z ValueFault) → ((f : ValueFault) → read ≡ Err f → total ≡ Err f) → Refuses e read → Refuses e total

@@ -1,5 +1,5 @@
 -- Where a cursor is.
-use Rattle.dbus_marshal.specs.Reading.{Spot}
+use Rattle.dbus_marshal.specs.Unmarshal.{Spot}
 use Rattle.dbus_marshal.specs.declared.cursor.Cursor.{Cursor}
 
 -- the spot of a cursor

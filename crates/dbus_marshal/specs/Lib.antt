@@ -3,7 +3,7 @@ pub mod Wire
 pub mod Marshals
 pub mod Fitting
 pub mod Spelling
-pub mod Reading
+pub mod Unmarshal
 pub mod Cursors
 pub mod Counting
 pub mod Writing

@@ -4,7 +4,6 @@
 #![tactic(auto)]
 
 mod cursor;
-mod laws;
 mod limits;
 mod marshalling;
 mod places;
@@ -12,12 +11,12 @@ mod put;
 mod putting;
 mod reading;
 mod refused;
+mod spelling_laws;
 mod type_text;
 mod values;
 mod writers;
 mod writing;
 
-pub use laws::{a_value_has_one_spelling, no_spelling_goes_on};
 pub use marshalling::marshal;
 pub use places::{alignment, is_byte};
 pub use put::{Counter, Never, Put};
@@ -26,6 +25,7 @@ pub use putting::{
     put_signature, put_text, put_text_variant, put_u32, put_u64, size_of_values,
 };
 pub use refused::{MarshalFault, ValueFault};
+pub use spelling_laws::{a_value_has_one_spelling, no_spelling_goes_on};
 pub use values::unmarshal;
 
 /// No memory was left for a call. This refusal alone may come at any time.

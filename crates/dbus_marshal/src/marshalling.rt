@@ -4,7 +4,7 @@ ghost use Rattle.dbus_types.specs.Values.{tys_of};
 ghost use Rattle.dbus_types.specs.ValueViews.{values_of};
 ghost use Rattle.dbus_marshal.specs.Fitting.{HaveSpelling};
 ghost use Rattle.dbus_marshal.specs.Marshals.{AreSpelled};
-ghost use Rattle.dbus_marshal.specs.Reading.{values_at};
+ghost use Rattle.dbus_marshal.specs.Unmarshal.{values_at};
 ghost use Rattle.dbus_marshal.specs.Spelling.{are_short};
 
 use crate::refused::MarshalFault;

@@ -5,7 +5,7 @@ ghost use Rattle.dbus_types.specs.Types.{Ty};
 ghost use Rattle.dbus_types.specs.Signatures.{signature_at};
 ghost use Rattle.dbus_types.specs.SignatureViews.{types_in};
 ghost use Rattle.dbus_types.specs.ValueViews.{core_as};
-ghost use Rattle.dbus_marshal.specs.Reading.{Reads, bytes_at, padding_at, number_at, are_zero, ended_at, string_at, path_at, signature_value_at, listed, basic_number_at, is_number, basic_at};
+ghost use Rattle.dbus_marshal.specs.Unmarshal.{Reads, bytes_at, padding_at, number_at, are_zero, ended_at, string_at, path_at, signature_value_at, listed, basic_number_at, is_number, basic_at};
 ghost use Rattle.dbus_marshal.specs.Cursors.{spot_of};
 ghost use Rattle.dbus_marshal.specs.Wire.{padding, number_from, is_text};
 
@@ -18,7 +18,7 @@ use kr_base::Text;
 use std::alloc::Global;
 
 /// The next `count` bytes, or Short.
-#[tactic(auto, unfolding(crate::specs::Reading::bytes_at))]
+#[tactic(auto, unfolding(crate::specs::Unmarshal::bytes_at))]
 pub fn take_bytes(cursor: Cursor<'_>, count: usize) -> Result<(&[u8], Cursor<'_>), ValueFault>
     ensures reads { Reads (λ x. (x.0.now, spot_of x.1)) result
         (bytes_at count (spot_of cursor.entry)) }
@@ -51,7 +51,7 @@ fn is_zero(bytes: &[u8]) -> bool
 }
 
 /// The zeros up to a multiple of the alignment.
-#[tactic(auto, unfolding(crate::specs::Reading::padding_at))]
+#[tactic(auto, unfolding(crate::specs::Unmarshal::padding_at))]
 pub fn skip_padding(cursor: Cursor<'_>, alignment: usize) -> Result<Cursor<'_>, ValueFault>
     requires { 0 < alignment }
     ensures { Reads spot_of result (padding_at alignment (spot_of cursor.entry)) }
@@ -115,7 +115,7 @@ fn u8_of(endian: Endian, bytes: &[u8]) -> u8
     }
 }
 
-#[tactic(auto, unfolding(crate::specs::Reading::number_at))]
+#[tactic(auto, unfolding(crate::specs::Unmarshal::number_at))]
 fn read_u8(endian: Endian, cursor: Cursor<'_>) -> Result<(u8, Cursor<'_>), ValueFault>
     ensures { Reads (λ x. (x.0, spot_of x.1)) result (number_at endian w8 (spot_of cursor.entry)) }
 {
@@ -124,7 +124,7 @@ fn read_u8(endian: Endian, cursor: Cursor<'_>) -> Result<(u8, Cursor<'_>), Value
     Ok((u8_of(endian, bytes), after))
 }
 
-#[tactic(auto, unfolding(crate::specs::Reading::number_at))]
+#[tactic(auto, unfolding(crate::specs::Unmarshal::number_at))]
 fn read_u16(endian: Endian, cursor: Cursor<'_>) -> Result<(u16, Cursor<'_>), ValueFault>
     ensures { Reads (λ x. (x.0, spot_of x.1)) result (number_at endian w16 (spot_of cursor.entry)) }
 {
@@ -134,7 +134,7 @@ fn read_u16(endian: Endian, cursor: Cursor<'_>) -> Result<(u16, Cursor<'_>), Val
 }
 
 /// A number of 32 bits with its padding.
-#[tactic(auto, unfolding(crate::specs::Reading::number_at))]
+#[tactic(auto, unfolding(crate::specs::Unmarshal::number_at))]
 pub fn read_u32(endian: Endian, cursor: Cursor<'_>) -> Result<(u32, Cursor<'_>), ValueFault>
     ensures { Reads (λ x. (x.0, spot_of x.1)) result (number_at endian w32 (spot_of cursor.entry)) }
 {
@@ -143,7 +143,7 @@ pub fn read_u32(endian: Endian, cursor: Cursor<'_>) -> Result<(u32, Cursor<'_>),
     Ok((u32_of(endian, bytes), after))
 }
 
-#[tactic(auto, unfolding(crate::specs::Reading::number_at))]
+#[tactic(auto, unfolding(crate::specs::Unmarshal::number_at))]
 fn read_u64(endian: Endian, cursor: Cursor<'_>) -> Result<(u64, Cursor<'_>), ValueFault>
     ensures { Reads (λ x. (x.0, spot_of x.1)) result (number_at endian w64 (spot_of cursor.entry)) }
 {
@@ -173,7 +173,7 @@ fn text_of(alloc: Global, bytes: &[u8]) -> Result<Option<Text>, OutOfMemory>
     }
 }
 
-#[tactic(auto, unfolding(crate::specs::Reading::ended_at))]
+#[tactic(auto, unfolding(crate::specs::Unmarshal::ended_at))]
 fn read_ended(
     cursor: Cursor<'_>,
     count: usize,
@@ -190,7 +190,7 @@ fn read_ended(
     Ok((&bytes[..count], after))
 }
 
-#[tactic(auto, unfolding(crate::specs::Reading::string_at))]
+#[tactic(auto, unfolding(crate::specs::Unmarshal::string_at))]
 fn read_string(
     alloc: Global,
     endian: Endian,
@@ -206,7 +206,7 @@ fn read_string(
     Ok((text, after))
 }
 
-#[tactic(auto, unfolding(crate::specs::Reading::path_at))]
+#[tactic(auto, unfolding(crate::specs::Unmarshal::path_at))]
 fn read_path(
     alloc: Global,
     endian: Endian,
@@ -222,7 +222,7 @@ fn read_path(
 }
 
 /// A signature: its length in one byte, its text, and a zero byte.
-#[tactic(auto, unfolding(crate::specs::Reading::signature_value_at))]
+#[tactic(auto, unfolding(crate::specs::Unmarshal::signature_value_at))]
 pub fn read_signature(
     alloc: Global,
     endian: Endian,
@@ -248,7 +248,7 @@ fn parse_signature(alloc: Global, bytes: &[u8]) -> Result<Signature, ValueFault>
     }
 }
 
-#[tactic(auto, unfolding(crate::specs::Reading::basic_number_at))]
+#[tactic(auto, unfolding(crate::specs::Unmarshal::basic_number_at))]
 fn read_boolean(endian: Endian, cursor: Cursor<'_>) -> Result<(Value, Cursor<'_>), ValueFault>
     ensures any { (known : Ty) → Reads (λ x. (core_as known x.0, spot_of x.1)) result
         (basic_number_at endian BasicType.Boolean (spot_of cursor.entry)) }
@@ -260,7 +260,7 @@ fn read_boolean(endian: Endian, cursor: Cursor<'_>) -> Result<(Value, Cursor<'_>
     Ok((Value::Boolean(number == 1), after))
 }
 
-#[tactic(auto, unfolding(crate::specs::Reading::basic_number_at))]
+#[tactic(auto, unfolding(crate::specs::Unmarshal::basic_number_at))]
 fn read_number(
     endian: Endian,
     basic: BasicType,
@@ -313,7 +313,7 @@ fn read_number(
 }
 
 /// A value of a basic type, which is read in the same way wherever it is.
-#[tactic(auto, unfolding(crate::specs::Reading::basic_at))]
+#[tactic(auto, unfolding(crate::specs::Unmarshal::basic_at))]
 pub fn read_basic(
     alloc: Global,
     endian: Endian,

@@ -3,7 +3,7 @@ ghost use Rattle.dbus_types.specs.Views.{type_of, types_of};
 ghost use Rattle.dbus_types.specs.SignatureViews.{types_in};
 ghost use Rattle.dbus_types.specs.ValueViews.{value_as, values_of, each_as, fields_as, known_as};
 ghost use Rattle.dbus_marshal.specs.Limits.{depth_limit};
-ghost use Rattle.dbus_marshal.specs.Reading.{Reads, value_at, variant_by, array_by, struct_by, entry_by, fields_by, elements_of, elements_from, values_at, only_type, with_values, with_fields};
+ghost use Rattle.dbus_marshal.specs.Unmarshal.{Reads, value_at, variant_by, array_by, struct_by, entry_by, fields_by, elements_of, elements_from, values_at, only_type, with_values, with_fields};
 ghost use Rattle.dbus_types.specs.Types.{Ty, texts_of};
 ghost use Rattle.dbus_types.specs.Values.{Vals, tys_of};
 ghost use Rattle.dbus_marshal.specs.Fitting.{HaveSpelling};
@@ -91,7 +91,7 @@ fn read_value<'a>(
 }
 
 #[cycle(readers)]
-#[tactic(auto, unfolding(crate::specs::Reading::variant_by))]
+#[tactic(auto, unfolding(crate::specs::Unmarshal::variant_by))]
 fn read_variant<'a>(
     alloc: Global,
     depth: u8,
@@ -108,7 +108,7 @@ fn read_variant<'a>(
 }
 
 #[cycle(readers)]
-#[tactic(auto, unfolding(crate::specs::Reading::array_by))]
+#[tactic(auto, unfolding(crate::specs::Unmarshal::array_by))]
 fn read_array<'a>(
     alloc: Global,
     depth: u8,
@@ -136,7 +136,7 @@ fn read_array<'a>(
 }
 
 #[cycle(readers)]
-#[tactic(auto, unfolding(crate::specs::Reading::elements_of))]
+#[tactic(auto, unfolding(crate::specs::Unmarshal::elements_of))]
 fn read_elements(
     alloc: Global,
     depth: u8,
@@ -195,7 +195,7 @@ fn read_each(
 }
 
 #[cycle(readers)]
-#[tactic(auto, unfolding(crate::specs::Reading::struct_by))]
+#[tactic(auto, unfolding(crate::specs::Unmarshal::struct_by))]
 fn read_struct<'a>(
     alloc: Global,
     depth: u8,
@@ -244,7 +244,7 @@ fn read_fields<'a>(
 }
 
 #[cycle(readers)]
-#[tactic(auto, unfolding(crate::specs::Reading::entry_by))]
+#[tactic(auto, unfolding(crate::specs::Unmarshal::entry_by))]
 fn read_entry<'a>(
     alloc: Global,
     depth: u8,
@@ -268,7 +268,7 @@ fn read_entry<'a>(
 }
 
 // The values of the types, which all of the bytes spell.
-#[tactic(auto, unfolding(crate::specs::Reading::values_at))]
+#[tactic(auto, unfolding(crate::specs::Unmarshal::values_at))]
 fn read_values(
     alloc: Global,
     types: &[CompleteType],

@@ -9,7 +9,7 @@ use Rattle.dbus_types.specs.Types.{Tys, is_signature}
 use Rattle.dbus_types.specs.Values.{Val, Vals, tys_of}
 use Rattle.dbus_marshal.specs.Limits.{array_limit}
 use Rattle.dbus_marshal.specs.Wire.{padding, zeros, number_bytes, number_from}
-use Rattle.dbus_marshal.specs.Reading.{are_zero}
+use Rattle.dbus_marshal.specs.Unmarshal.{are_zero}
 use Rattle.dbus_marshal.specs.Spelling.{all_spelled, are_short}
 use Rattle.dbus_marshal.specs.Marshals.{AreSpelled}
 use Rattle.dbus_marshal.proofs.MarshalLaws.{marshal_spelled}

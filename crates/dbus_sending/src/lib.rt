@@ -6,9 +6,9 @@
 #![tactic(auto)]
 
 mod header;
-mod laws;
 mod message;
+mod sending_laws;
 
 pub use header::Header;
-pub use laws::what_is_sent_is_a_message;
 pub use message::put_message;
+pub use sending_laws::what_is_sent_is_a_message;

@@ -3,7 +3,7 @@ ghost use Rattle.std.specs.Prelude.{◌≡◌, ◌↔◌, ◌++◌, ℕ, List, C
 ghost use Rattle.std.specs.Cmp.Lexicographic.{slice_cmp};
 ghost use Rattle.std.specs.List.Sorted.{IsStrictlySortedBy};
 ghost use Rattle.std.specs.Ordering.{nat_cmp};
-ghost use Rattle.kr_names.specs.Reading.{Reads};
+ghost use Rattle.kr_names.specs.Reads.{Reads};
 ghost use Rattle.folder_store.specs.Names.{IsRingName};
 
 use kr_base::{OutOfMemory, Stem, Text};

@@ -5,7 +5,7 @@
 #![tactic(auto)]
 
 mod fault;
-mod laws;
+mod item_laws;
 mod loading;
 mod moving;
 mod rows;
@@ -14,7 +14,7 @@ mod swapping;
 mod uncounted;
 
 pub use fault::ItemFault;
-pub use laws::rising_rows_are_one_list;
+pub use item_laws::rising_rows_are_one_list;
 pub use moving::Moving;
 pub use rows::RowList;
 pub use store::{ItemStore, MOST_ATTRIBUTES};

@@ -4,7 +4,7 @@ use Rattle.std.specs.Result.{IfOk}
 use Rattle.std.proofs.lemmas.List.{length-append, drop_at}
 use Rattle.keyring_text.specs.declared.fault.ReadRefused.{ReadRefused}
 use Rattle.keyring_text.specs.Fields.{IsBytes}
-use Rattle.keyring_text.specs.Reading.{Gives}
+use Rattle.keyring_text.specs.FieldReading.{Gives}
 use Rattle.keyring_file.specs.declared.area.FullItem.{FullItem}
 use Rattle.keyring_file.specs.declared.fault.AreaFault.{AreaFault}
 use Rattle.keyring_file.specs.declared.fault.ClearFault.{ClearFault}
@@ -12,7 +12,7 @@ use Rattle.keyring_file.specs.declared.fault.ClearFault.TheVariants as clear_fau
 use Rattle.keyring_file.specs.Clear.{ClearPart, pairs_in}
 use Rattle.keyring_file.specs.ClearText.{ClearText}
 use Rattle.keyring_file.specs.AreaText.{AreaText}
-use Rattle.keyring_file.specs.Reading.{clear_read, area_read}
+use Rattle.keyring_file.specs.FileReading.{clear_read, area_read}
 use Rattle.keyring_file.proofs.FileLaws.{file_found, file_again, file_cut}
 use Rattle.keyring_file.proofs.AreaLaws.{area_found, area_again}
 use Rattle.keyring_file.proofs.Bounds.{file_few, area_few}

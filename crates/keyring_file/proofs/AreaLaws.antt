@@ -14,7 +14,7 @@ use Rattle.keyring_text.specs.declared.fault.FieldFault.TheVariants as field_fau
 use Rattle.keyring_text.specs.Fields.{IsBytes, number, SpellsNumber, SpellsString, SpellsText, IsSpan}
 use Rattle.keyring_text.specs.Forms.{Joined, SpellsList, SpellsKeyed}
 use Rattle.keyring_text.specs.declared.fault.ReadRefused.{ReadRefused}
-use Rattle.keyring_text.specs.Reading.{Fails, all_at}
+use Rattle.keyring_text.specs.FieldReading.{Fails, all_at}
 use Rattle.keyring_text.proofs.Laws.{ReadsIf, Always, Reads, Parted, bind_ok, ok_is, step, field, skip, skip_last, last, made, IsBytes-behind}
 use Rattle.keyring_text.proofs.ListLaws.{ByKind, zeroth, first, kinds_law, all_law, list_law, keyed_list_law}
 use Rattle.keyring_text.proofs.FieldLaws.{number_law, time_law, string_law, text_law, span_law, IsSpelled}
@@ -23,7 +23,7 @@ use Rattle.keyring_file.specs.declared.area.FullItem.{FullItem}
 use Rattle.keyring_file.specs.declared.fault.AreaFault.TheVariants as area_fault
 use Rattle.keyring_file.specs.AreaText.{SpellsValue, SpellsAttribute, SpellsAttributes, IsReservedString, SpellsAccess, SpellsItem, AreaText}
 use Rattle.keyring_file.specs.Gathered.{gathered}
-use Rattle.keyring_file.specs.Reading.{in_area, area_refused, value_at, attribute_at, so_many_attributes_at, listed_attributes_at, attributes_at, reserved_after, access_at, so_many_accesses_at, accesses_at, lists_at, lists_after, item_at, items_read, is_checked, area_read}
+use Rattle.keyring_file.specs.FileReading.{in_area, area_refused, value_at, attribute_at, so_many_attributes_at, listed_attributes_at, attributes_at, reserved_after, access_at, so_many_accesses_at, accesses_at, lists_at, lists_after, item_at, items_read, is_checked, area_read}
 use Rattle.keyring_file.proofs.ClearLaws.{is_name-symm}
 use Rattle.keyring_file.proofs.GatheredLemmas.{gathers}
 use Rattle.keyring_file.proofs.Refusals.{fails-area}

@@ -12,7 +12,7 @@ use Rattle.keyring_text.specs.declared.fault.FieldFault.{FieldFault}
 use Rattle.keyring_text.specs.declared.fault.FieldFault.TheVariants as field_fault
 use Rattle.keyring_text.specs.Fields.{IsBytes, number, SpellsNumber, SpellsString}
 use Rattle.keyring_text.specs.Forms.{Joined}
-use Rattle.keyring_text.specs.Reading.{text_at}
+use Rattle.keyring_text.specs.FieldReading.{text_at}
 use Rattle.keyring_text.proofs.Laws.{Taken, ReadsIf, Always, Reads, Parted, step, field, last, made, ok_is}
 use Rattle.keyring_text.proofs.ListLaws.{found, ByKind, zeroth, first, kinds_law, keyed_list_law}
 use Rattle.keyring_text.proofs.FieldLaws.{number_law, string_law, text_law}
@@ -20,7 +20,7 @@ use Rattle.keyring_file.specs.declared.clear.ClearItem.{ClearItem}
 use Rattle.keyring_file.specs.declared.fault.ClearFault.TheVariants as clear_fault
 use Rattle.keyring_file.specs.Clear.{plain_content}
 use Rattle.keyring_file.specs.ClearText.{SpellsHashed, SpellsPairs, SpellsContent, left_out, told, SpellsClearItems}
-use Rattle.keyring_file.specs.Reading.{hashed_at, pair_at, so_many_pairs_at, pairs_at, content_at, clear_item_at, in_clear, so_many_items_at, clear_items_at}
+use Rattle.keyring_file.specs.FileReading.{hashed_at, pair_at, so_many_pairs_at, pairs_at, content_at, clear_item_at, in_clear, so_many_items_at, clear_items_at}
 
 -- ---- in the clear part
 

@@ -9,7 +9,7 @@ use Rattle.std.proofs.Math.Seq.{take-append-add}
 use Rattle.keyring_text.specs.declared.fault.FieldFault.TheVariants as field_fault
 use Rattle.keyring_text.specs.Fields.{IsBytes, SpellsNumber, SpellsTime, SpellsText, IsSpan}
 use Rattle.keyring_text.specs.Forms.{Joined, Exactly}
-use Rattle.keyring_text.specs.Reading.{◌>>=◌, number_at, checked}
+use Rattle.keyring_text.specs.FieldReading.{◌>>=◌, number_at, checked}
 use Rattle.keyring_text.proofs.Laws.{Taken, Always, Reads, bind_ok, ok_is, field, skip, skip_last, last, alike, IsBytes-behind}
 use Rattle.keyring_text.proofs.ListLaws.{found, tested}
 use Rattle.keyring_text.proofs.FieldLaws.{number_law, time_law, text_law, span_law, IsSpelled}
@@ -18,7 +18,7 @@ use Rattle.keyring_file.specs.declared.fault.ClearFault.{ClearFault}
 use Rattle.keyring_file.specs.declared.fault.ClearFault.TheVariants as clear_fault
 use Rattle.keyring_file.specs.Clear.{ClearPart}
 use Rattle.keyring_file.specs.ClearText.{magic, most_iterations, SpellsVersion, SpellsIterations, IsSalt, SpellsSalt, SpellsClear, SpellsClearItems, IsAreaLength, ClearText}
-use Rattle.keyring_file.specs.Reading.{in_clear, magic_at, version_byte_at, version_at, numbers_after, front_at, limited_at, salt_at, items_after, clear_at, is_no_area_length, area_of, encrypted_at, clear_read}
+use Rattle.keyring_file.specs.FileReading.{in_clear, magic_at, version_byte_at, version_at, numbers_after, front_at, limited_at, salt_at, items_after, clear_at, is_no_area_length, area_of, encrypted_at, clear_read}
 use Rattle.keyring_file.proofs.ClearLaws.{in_clear_law, clear_items_law}
 
 -- ---- the first 16 bytes
@@ -257,7 +257,7 @@ limited_law =
 salt-up : (salt text : List ℕ) → IsSpelled 8 salt text → IsSalt salt text
 salt-up salt text s = record { is = s.is; len = s.len }
 
-eight_law : Reads field_fault.Short IsSalt (λ bytes. Rattle.keyring_text.specs.Reading.span_at 8 bytes)
+eight_law : Reads field_fault.Short IsSalt (λ bytes. Rattle.keyring_text.specs.FieldReading.span_at 8 bytes)
 eight_law = alike (span_law 8) (λ s text h p. record { kept = tt; is = record { is = p.is; len = p.len } }) (λ s text h p. record { kept = tt; is = record { is = p.is; len = p.len } })
 
 span-up : (n : ℕ) (a text : List ℕ) → IsSpelled n a text → IsSpan n text

@@ -7,10 +7,10 @@ use Rattle.std.proofs.lemmas.Bool.{cases_lt, eq-eqb, ne_eqb}
 use Rattle.kr_base.specs.declared.attributes.AttrValue.{AttrValue}
 use Rattle.kr_base.specs.declared.hashed.HashedPair.{HashedPair}
 use Rattle.keyring_text.specs.declared.fault.FieldFault.{FieldFault}
-use Rattle.keyring_text.specs.Reading.{◌>>=◌, number_at}
+use Rattle.keyring_text.specs.FieldReading.{◌>>=◌, number_at}
 use Rattle.keyring_text.proofs.Laws.{bind_ok, ok_is}
 use Rattle.keyring_file.specs.declared.clear.ClearItem.{ClearItem}
-use Rattle.keyring_file.specs.Reading.{hashed_at, pair_at, value_at, attribute_at, pairs_at, content_at, clear_item_at, in_clear, item_behind}
+use Rattle.keyring_file.specs.FileReading.{hashed_at, pair_at, value_at, attribute_at, pairs_at, content_at, clear_item_at, in_clear, item_behind}
 
 pub pair-keeps : (k bytes : List ℕ) (x : HashedPair) (rest : List ℕ) → pair_at k bytes ≡ Ok (x, rest) → x.name ≡ k
 unfolding pair_at

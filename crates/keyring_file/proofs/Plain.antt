@@ -3,14 +3,14 @@ use Rattle.std.proofs.Common.{◌≡◌, ℕ, suc, zero, ◌≤◌, Bool, true, 
 use Rattle.std.specs.List.{AllByRecursion, list_any}
 use Rattle.std.proofs.lemmas.Bool.{ltb-false}
 use Rattle.keyring_text.specs.declared.fault.FieldFault.{FieldFault}
-use Rattle.keyring_text.specs.Reading.{◌>>=◌, number_at, keyed_at}
+use Rattle.keyring_text.specs.FieldReading.{◌>>=◌, number_at, keyed_at}
 use Rattle.keyring_text.proofs.Laws.{bind_ok, ok_is}
 use Rattle.keyring_text.proofs.ListLaws.{found}
 use Rattle.keyring_file.specs.declared.clear.ClearItem.{ClearItem}
 use Rattle.keyring_file.specs.declared.fault.ClearFault.{ClearFault}
 use Rattle.keyring_file.specs.declared.fault.ClearFault.TheVariants as clear_fault
 use Rattle.keyring_file.specs.Clear.{plain_content, IsPlain, IsOfVersion}
-use Rattle.keyring_file.specs.Reading.{pairs_at, content_at, clear_item_at, in_clear, id_at, item_behind, so_many_items_at, clear_items_at, version_byte_at, version_at}
+use Rattle.keyring_file.specs.FileReading.{pairs_at, content_at, clear_item_at, in_clear, id_at, item_behind, so_many_items_at, clear_items_at, version_byte_at, version_at}
 
 -- ---- the items
 

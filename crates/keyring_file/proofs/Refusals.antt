@@ -3,8 +3,8 @@ use Rattle.std.proofs.Common.{Result, refl}
 use Rattle.keyring_text.specs.declared.fault.FieldFault.{FieldFault}
 use Rattle.keyring_text.specs.declared.fault.ReadRefused.{ReadRefused}
 use Rattle.keyring_text.specs.declared.fault.ReadRefused.TheVariants as refused
-use Rattle.keyring_text.specs.Reading.{Fails}
-use Rattle.keyring_file.specs.Reading.{in_clear, clear_refused, in_area, area_refused}
+use Rattle.keyring_text.specs.FieldReading.{Fails}
+use Rattle.keyring_file.specs.FileReading.{in_clear, clear_refused, in_area, area_refused}
 
 pub fails-clear : {A : Type 0} (e : ReadRefused FieldFault) (r : Result A FieldFault) → Fails e r → Fails (clear_refused e) (in_clear r)
 fails-clear refused.OutOfMemory r h = tt

@@ -7,6 +7,6 @@ pub mod Known
 pub mod Limits
 pub mod Names
 pub mod Numbers
-pub mod Reading
+pub mod FileReading
 pub mod Short
 pub mod Sound

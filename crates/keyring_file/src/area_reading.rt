@@ -1,6 +1,6 @@
 ghost use Rattle.std.specs.Prelude.{◌≡◌, ◌*◌, ◌≤◌, List, ℕ, length, IsTrue, Ok, Err, IfOk};
-ghost use Rattle.keyring_text.specs.Reading.{Gives};
-ghost use Rattle.keyring_file.specs.Reading as reading;
+ghost use Rattle.keyring_text.specs.FieldReading.{Gives};
+ghost use Rattle.keyring_file.specs.FileReading as reading;
 ghost use Rattle.keyring_file.specs.declared.area.FullItem.{FullItem};
 ghost use Rattle.keyring_file.specs.AreaText.{AreaText};
 ghost use Rattle.keyring_file.specs.Names.{has_name, AddsName};
@@ -17,7 +17,7 @@ use md5::{Digest, Md5};
 use std::alloc::Global;
 
 /// A value with its kind, and the bytes after it.
-#[tactic(auto, unfolding(crate::specs::Reading::value_at))]
+#[tactic(auto, unfolding(crate::specs::FileReading::value_at))]
 fn value_at(alloc: Global, bytes: &[u8]) -> Result<(AttrValue, &[u8]), ReadRefused<FieldFault>>
     ensures { Gives (λ x. (x.0, x.1.now)) result (reading.value_at bytes.now) }
 {
@@ -75,7 +75,7 @@ fn so_many_attributes_at(
 }
 
 /// The attributes of one item, in the order of the file.
-#[tactic(auto, unfolding(crate::specs::Reading::listed_attributes_at))]
+#[tactic(auto, unfolding(crate::specs::FileReading::listed_attributes_at))]
 fn listed_attributes_at(
     alloc: Global,
     bytes: &[u8],
@@ -96,7 +96,7 @@ fn in_order(alloc: Global, pairs: Vec<(Text, AttrValue)>) -> Result<Attributes, 
 }
 
 /// The attributes of one item.
-#[tactic(auto, unfolding(crate::specs::Reading::attributes_at))]
+#[tactic(auto, unfolding(crate::specs::FileReading::attributes_at))]
 fn attributes_at(
     alloc: Global,
     bytes: &[u8],
@@ -109,7 +109,7 @@ fn attributes_at(
 }
 
 /// The reserved fields that end an access entry.
-#[tactic(auto, unfolding(crate::specs::Reading::reserved_after))]
+#[tactic(auto, unfolding(crate::specs::FileReading::reserved_after))]
 fn reserved_after(access: Access, bytes: &[u8]) -> Result<(Access, &[u8]), ReadRefused<FieldFault>>
     ensures { Gives (λ x. (x.0, x.1.now)) result (reading.reserved_after access bytes.now) }
 {
@@ -119,7 +119,7 @@ fn reserved_after(access: Access, bytes: &[u8]) -> Result<(Access, &[u8]), ReadR
 }
 
 /// An access entry.
-#[tactic(auto, unfolding(crate::specs::Reading::access_at))]
+#[tactic(auto, unfolding(crate::specs::FileReading::access_at))]
 fn access_at(alloc: Global, bytes: &[u8]) -> Result<(Access, &[u8]), ReadRefused<FieldFault>>
     ensures { Gives (λ x. (x.0, x.1.now)) result (reading.access_at bytes.now) }
 {
@@ -156,7 +156,7 @@ fn so_many_accesses_at(
 }
 
 /// The access entries of one item.
-#[tactic(auto, unfolding(crate::specs::Reading::accesses_at))]
+#[tactic(auto, unfolding(crate::specs::FileReading::accesses_at))]
 fn accesses_at(alloc: Global, bytes: &[u8]) -> Result<(Vec<Access>, &[u8]), ReadRefused<FieldFault>>
     ensures { Gives (λ x. (x.0.items, x.1.now)) result (reading.accesses_at bytes.now) }
 {
@@ -166,7 +166,7 @@ fn accesses_at(alloc: Global, bytes: &[u8]) -> Result<(Vec<Access>, &[u8]), Read
 }
 
 /// The item's last part: its attributes and its access entries.
-#[tactic(auto, unfolding(crate::specs::Reading::lists_at))]
+#[tactic(auto, unfolding(crate::specs::FileReading::lists_at))]
 fn lists_at(
     alloc: Global,
     bytes: &[u8],
@@ -179,7 +179,7 @@ fn lists_at(
 }
 
 /// The reserved fields and the lists, which follow an item's label, secret and times.
-#[tactic(auto, unfolding(crate::specs::Reading::lists_after))]
+#[tactic(auto, unfolding(crate::specs::FileReading::lists_after))]
 fn lists_after(
     alloc: Global,
     label: Text,
@@ -209,7 +209,7 @@ fn lists_after(
 }
 
 /// An item.
-#[tactic(auto, unfolding(crate::specs::Reading::item_at))]
+#[tactic(auto, unfolding(crate::specs::FileReading::item_at))]
 fn item_at(alloc: Global, bytes: &[u8]) -> Result<(FullItem, &[u8]), ReadRefused<FieldFault>>
     ensures { Gives (λ x. (x.0, x.1.now)) result (reading.item_at bytes.now) }
 {
@@ -221,7 +221,7 @@ fn item_at(alloc: Global, bytes: &[u8]) -> Result<(FullItem, &[u8]), ReadRefused
 }
 
 /// This many items; whatever follows them is padding.
-#[tactic(auto, unfolding(crate::specs::Reading::items_read))]
+#[tactic(auto, unfolding(crate::specs::FileReading::items_read))]
 fn items_of(
     alloc: Global,
     count: usize,
@@ -263,7 +263,7 @@ fn area_refused(refused: ReadRefused<FieldFault>) -> ReadRefused<AreaFault>
 }
 
 /// Whether the first 16 bytes are the MD5 of the rest.
-#[tactic(auto, unfolding(crate::specs::Reading::is_checked))]
+#[tactic(auto, unfolding(crate::specs::FileReading::is_checked))]
 fn is_checked(area: &[u8]) -> bool
     ensures test { result ≡ reading.is_checked area.now }
     ensures long { IsTrue result → 16 ≤ length area.now }
@@ -277,7 +277,7 @@ fn is_checked(area: &[u8]) -> bool
 }
 
 /// The items of a decrypted area.
-#[tactic(auto, unfolding(crate::specs::Reading::area_read))]
+#[tactic(auto, unfolding(crate::specs::FileReading::area_read))]
 fn area_of(
     alloc: Global,
     area: &[u8],

@@ -1,12 +1,12 @@
 ghost use Rattle.std.specs.Prelude.{◌≡◌, ◌+◌, ◌*◌, ◌<◌, ◌≤◌, ◌++◌, ◌∷◌, List, [], ℕ, length, take, drop, Ok, Err, IfOk};
-ghost use Rattle.keyring_text.specs.Reading.{Gives};
-ghost use Rattle.keyring_file.specs.Reading as reading;
+ghost use Rattle.keyring_text.specs.FieldReading.{Gives};
+ghost use Rattle.keyring_file.specs.FileReading as reading;
 ghost use Rattle.keyring_file.specs.declared.fault.ClearFault.TheVariants as clear_fault;
 ghost use Rattle.keyring_file.specs.Clear.{ClearPart, IsOfVersion, plain_content, pairs_in};
 ghost use Rattle.keyring_file.specs.ClearText.{ClearText};
 ghost use Rattle.keyring_file.specs.Names.{has_name, AddsName};
 ghost use Rattle.keyring_file.specs.Numbers.{Keeps, has_number};
-ghost use Rattle.keyring_file.specs.Reading.{in_clear, part_and_area};
+ghost use Rattle.keyring_file.specs.FileReading.{in_clear, part_and_area};
 
 use crate::magic::begins_with_magic;
 use crate::names::{Names, is_new_name, no_names};
@@ -23,7 +23,7 @@ use std::alloc::Global;
 const MOST_ITERATIONS: u32 = 1_000_000;
 
 /// A hashed value with its kind, and the bytes after it.
-#[tactic(auto, unfolding(crate::specs::Reading::hashed_at))]
+#[tactic(auto, unfolding(crate::specs::FileReading::hashed_at))]
 fn hashed_at(alloc: Global, bytes: &[u8]) -> Result<(HashedValue, &[u8]), ReadRefused<FieldFault>>
     ensures { Gives (λ x. (x.0, x.1.now)) result (reading.hashed_at bytes.now) }
 {
@@ -42,7 +42,7 @@ fn hashed_at(alloc: Global, bytes: &[u8]) -> Result<(HashedValue, &[u8]), ReadRe
 }
 
 /// A hashed attribute whose name isn't one of those read before, and the bytes after it.
-#[tactic(auto, unfolding(crate::specs::Reading::pair_at))]
+#[tactic(auto, unfolding(crate::specs::FileReading::pair_at))]
 fn new_pair_at<'a>(
     alloc: Global,
     names: &mut Names<'a>,
@@ -81,7 +81,7 @@ fn so_many_pairs_at(
 }
 
 /// The hashed attributes of one item.
-#[tactic(auto, unfolding(crate::specs::Reading::pairs_at))]
+#[tactic(auto, unfolding(crate::specs::FileReading::pairs_at))]
 fn pairs_at(
     alloc: Global,
     bytes: &[u8],
@@ -105,7 +105,7 @@ fn plain(alloc: Global) -> Result<Text, OutOfMemory>
 }
 
 /// A content type, which version 0.0 leaves out.
-#[tactic(auto, unfolding(crate::specs::Reading::content_at))]
+#[tactic(auto, unfolding(crate::specs::FileReading::content_at))]
 fn content_at(
     alloc: Global,
     minor: u8,
@@ -121,7 +121,7 @@ fn content_at(
 }
 
 /// What follows the number of an item.
-#[tactic(auto, unfolding(crate::specs::Reading::clear_item_at))]
+#[tactic(auto, unfolding(crate::specs::FileReading::clear_item_at))]
 fn clear_item_at(
     alloc: Global,
     minor: u8,
@@ -237,7 +237,7 @@ fn so_many_items_at(
 }
 
 /// The items of the clear part.
-#[tactic(auto, unfolding(crate::specs::Reading::clear_items_at))]
+#[tactic(auto, unfolding(crate::specs::FileReading::clear_items_at))]
 fn clear_items_at(
     alloc: Global,
     minor: u8,
@@ -251,7 +251,7 @@ fn clear_items_at(
 }
 
 /// The bytes after the first 16, which must be those of every keyring file.
-#[tactic(auto, unfolding(crate::specs::Reading::magic_at))]
+#[tactic(auto, unfolding(crate::specs::FileReading::magic_at))]
 fn magic_at(bytes: &[u8]) -> Result<&[u8], ReadRefused<ClearFault>>
     ensures { Gives (λ x. (tt, x.now)) result (reading.magic_at bytes.now) }
 {
@@ -282,7 +282,7 @@ fn version_byte_at(bytes: &[u8], most: u8) -> Result<(u8, &[u8]), ReadRefused<Cl
 }
 
 /// The minor number of the version.
-#[tactic(auto, unfolding(crate::specs::Reading::version_at))]
+#[tactic(auto, unfolding(crate::specs::FileReading::version_at))]
 fn version_at(bytes: &[u8]) -> Result<(u8, &[u8]), ReadRefused<ClearFault>>
     ensures read { Gives (λ x. (x.0, x.1.now)) result (reading.version_at bytes.now) }
     ensures known { IfOk result (λ x. x.0 ≤ 1) }
@@ -306,7 +306,7 @@ struct Front {
 }
 
 /// The front with this name and these times, whose three numbers are read.
-#[tactic(auto, unfolding(crate::specs::Reading::numbers_after))]
+#[tactic(auto, unfolding(crate::specs::FileReading::numbers_after))]
 fn numbers_after(
     name: Text,
     created: u64,
@@ -332,7 +332,7 @@ fn numbers_after(
     ))
 }
 
-#[tactic(auto, unfolding(crate::specs::Reading::front_at))]
+#[tactic(auto, unfolding(crate::specs::FileReading::front_at))]
 fn front_at(alloc: Global, bytes: &[u8]) -> Result<(Front, &[u8]), ReadRefused<FieldFault>>
     ensures { Gives (λ x. (x.0, x.1.now)) result (reading.front_at bytes.now) }
 {
@@ -343,7 +343,7 @@ fn front_at(alloc: Global, bytes: &[u8]) -> Result<(Front, &[u8]), ReadRefused<F
 }
 
 /// The front. `TooManyIterations` if there are more than 1,000,000 iterations.
-#[tactic(auto, unfolding(crate::specs::Reading::limited_at))]
+#[tactic(auto, unfolding(crate::specs::FileReading::limited_at))]
 fn limited_at(alloc: Global, bytes: &[u8]) -> Result<(Front, &[u8]), ReadRefused<ClearFault>>
     ensures { Gives (λ x. (x.0, x.1.now)) result (reading.limited_at bytes.now) }
 {
@@ -359,7 +359,7 @@ fn limited_at(alloc: Global, bytes: &[u8]) -> Result<(Front, &[u8]), ReadRefused
 }
 
 /// The salt, borrowed from the file, and the bytes after the four reserved numbers that follow it.
-#[tactic(auto, unfolding(crate::specs::Reading::salt_at))]
+#[tactic(auto, unfolding(crate::specs::FileReading::salt_at))]
 fn salt_at(bytes: &[u8]) -> Result<(&[u8], &[u8]), ReadRefused<FieldFault>>
     ensures read { Gives (λ x. (x.0.now, x.1.now)) result (reading.salt_at bytes.now) }
     ensures eight { IfOk result (λ x. length x.0.now ≡ 8) }
@@ -409,7 +409,7 @@ fn clear_of(minor: u8, front: Front, salt: [u8; 8], items: Items<ClearItem>) -> 
 }
 
 /// The salt and the items, which follow the version and the front.
-#[tactic(auto, unfolding(crate::specs::Reading::items_after))]
+#[tactic(auto, unfolding(crate::specs::FileReading::items_after))]
 fn items_after(
     alloc: Global,
     minor: u8,
@@ -427,7 +427,7 @@ fn items_after(
 }
 
 /// All of the clear part except the length of the area.
-#[tactic(auto, unfolding(crate::specs::Reading::clear_at))]
+#[tactic(auto, unfolding(crate::specs::FileReading::clear_at))]
 fn clear_at(alloc: Global, file: &[u8]) -> Result<(Clear, &[u8]), ReadRefused<ClearFault>>
     ensures { Gives (λ x. (x.0, x.1.now)) result (reading.clear_at file.now) }
 {
@@ -438,7 +438,7 @@ fn clear_at(alloc: Global, file: &[u8]) -> Result<(Clear, &[u8]), ReadRefused<Cl
 }
 
 /// The area, which is all that is left after its length.
-#[tactic(auto, unfolding(crate::specs::Reading::encrypted_at))]
+#[tactic(auto, unfolding(crate::specs::FileReading::encrypted_at))]
 fn encrypted_at(bytes: &[u8]) -> Result<&[u8], ReadRefused<ClearFault>>
     ensures { Gives (λ x. x.now) result (reading.encrypted_at bytes.now) }
 {
@@ -457,7 +457,7 @@ fn encrypted_at(bytes: &[u8]) -> Result<&[u8], ReadRefused<ClearFault>>
 }
 
 /// The clear part, and the encrypted area after it.
-#[tactic(auto, unfolding(crate::specs::Reading::clear_read))]
+#[tactic(auto, unfolding(crate::specs::FileReading::clear_read))]
 fn parts_of(alloc: Global, file: &[u8]) -> Result<(Clear, &[u8]), ReadRefused<ClearFault>>
     ensures { Gives (λ x. (x.0, x.1.now)) result (reading.clear_read file.now) }
 {

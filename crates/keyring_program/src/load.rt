@@ -8,7 +8,7 @@ ghost use Rattle.keyring_program.specs.Status.{IsLoadStatus};
 ghost use Rattle.keyring_program.specs.WholeInput.{IsWholeInput};
 
 use crate::connection::serve_client;
-use crate::laws::each_request_has_its_reply;
+use crate::run_laws::each_request_has_its_reply;
 use crate::status::Status;
 use kr_memory::{ListedClock, MemorySink, SteadySource};
 use kr_memory_disk::{Files, SteadyFolder, SteadySlot};

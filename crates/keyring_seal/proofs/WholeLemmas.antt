@@ -5,7 +5,7 @@ use Rattle.aes_cbc.specs.Cbc.{decrypted}
 use Rattle.keyring_file.specs.AreaText.{AreaText}
 use Rattle.keyring_file.specs.Clear.{ClearPart}
 use Rattle.keyring_file.specs.ClearText.{ClearText}
-use Rattle.keyring_file.specs.Reading.{area_read, clear_read}
+use Rattle.keyring_file.specs.FileReading.{area_read, clear_read}
 use Rattle.keyring_file.specs.declared.area.FullItem.{FullItem}
 use Rattle.keyring_file.specs.declared.fault.AreaFault.{AreaFault}
 use Rattle.keyring_seal.specs.declared.content.Content.{Content}

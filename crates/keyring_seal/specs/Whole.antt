@@ -1,13 +1,13 @@
 -- Whole keyring files under a key.
 use Rattle.std.specs.Prelude.{◌≡◌, ℕ, List, ◌++◌, length, Result, Ok, Err}
 use Rattle.aes_cbc.specs.Cbc.{encrypted, decrypted}
-use Rattle.keyring_text.specs.Reading.{◌>>=◌}
+use Rattle.keyring_text.specs.FieldReading.{◌>>=◌}
 use Rattle.keyring_file.specs.AreaText.{AreaText}
 use Rattle.keyring_file.specs.Canonical.{area_text, clear_text}
 use Rattle.keyring_file.specs.Clear.{ClearPart}
 use Rattle.keyring_file.specs.ClearText.{ClearText}
 use Rattle.keyring_file.specs.Limits.{file_limit}
-use Rattle.keyring_file.specs.Reading.{area_read, clear_read}
+use Rattle.keyring_file.specs.FileReading.{area_read, clear_read}
 use Rattle.keyring_file.specs.declared.fault.AreaFault.{AreaFault}
 use Rattle.keyring_file.specs.declared.fault.ClearFault.{ClearFault}
 use Rattle.keyring_seal.specs.declared.content.Content.{Content}

@@ -8,17 +8,17 @@
 mod area;
 mod comparing;
 mod content;
-mod laws;
 mod opening;
 mod order;
 mod room;
+mod seal_laws;
 mod sealing;
 mod writing;
 
 pub use area::open_area;
 pub use content::{Content, known_content};
-pub use laws::{
+pub use opening::{OpenFault, open_file as open};
+pub use seal_laws::{
     a_file_of_a_content_opens_to_it, same_shape, what_is_arranged_rises, what_is_sealed_opens,
 };
-pub use opening::{OpenFault, open_file as open};
 pub use sealing::{SealRefused, seal, seal_rows};

@@ -1,13 +1,13 @@
 ghost use Rattle.std.specs.Prelude.{◌≡◌, ◌%◌, length, IfOk, Ok};
 ghost use Rattle.aes_cbc.specs.Cbc.{decrypted};
 ghost use Rattle.key_derivation.specs.Kdf.{key_of, vector_of};
-ghost use Rattle.keyring_text.specs.Reading.{Gives};
+ghost use Rattle.keyring_text.specs.FieldReading.{Gives};
 ghost use Rattle.keyring_seal.specs.Arranged.{IsSealable};
 ghost use Rattle.keyring_seal.specs.Whole.{IsFileOf, opened};
 ghost use Rattle.keyring_seal.specs.declared.content.Content.{Content as Whole};
 
 use crate::content::Content;
-use crate::laws::a_file_of_a_content_opens_to_it;
+use crate::seal_laws::a_file_of_a_content_opens_to_it;
 use aes_cbc::Key;
 use key_derivation::Derived;
 use keyring_file::{

@@ -13,9 +13,9 @@ ghost use Rattle.keyring_seal.specs.Room.{Seals, area_measure, measure};
 ghost use Rattle.keyring_seal.specs.Whole.{IsFileOf, most_bytes, opened, sealed};
 
 use crate::content::{Content, known_content};
-use crate::laws::what_is_sealed_opens;
 use crate::order::in_order;
 use crate::room::{row_sizes, sizes};
+use crate::seal_laws::what_is_sealed_opens;
 use crate::writing::{put_area, put_clear, put_kept_clear};
 use aes_cbc::Key;
 use key_derivation::Derived;

@@ -13,7 +13,7 @@ use Rattle.kr_base.specs.Text.{IsText}
 use Rattle.keyring_text.specs.declared.fault.FieldFault.{FieldFault}
 use Rattle.keyring_text.specs.declared.fault.FieldFault.TheVariants.{Short, BadText}
 use Rattle.keyring_text.specs.Fields.{IsBytes, number, number_of, time, time_of, none_length, SpellsNumber, SpellsTime, SpellsString, some, none, SpellsText}
-use Rattle.keyring_text.specs.Reading.{span_at, number_at, time_at, string_at, is_text, text_at}
+use Rattle.keyring_text.specs.FieldReading.{span_at, number_at, time_at, string_at, is_text, text_at}
 use Rattle.keyring_text.proofs.Laws.{Taken, Always, Reads, Parted, step, give, alike, ok_is}
 use Rattle.keyring_text.proofs.ListLaws.{found, tested}
 

@@ -6,7 +6,7 @@ use Rattle.std.proofs.lemmas.List.{take-append-le, get_or-append-add, length-app
 use Rattle.std.proofs.Math.Seq.{take-append-add}
 use Rattle.keyring_text.specs.Fields.{IsBytes}
 use Rattle.keyring_text.specs.Forms.{Joined}
-use Rattle.keyring_text.specs.Reading.{◌>>=◌}
+use Rattle.keyring_text.specs.FieldReading.{◌>>=◌}
 
 -- what a reader took from the start
 pub record Taken {A : Type 0} (holds : A → Type 0) (form : A → List ℕ → Type 0) (bytes : List ℕ) (x : A) (rest : List ℕ) : Type 0 where

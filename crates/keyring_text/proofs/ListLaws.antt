@@ -5,7 +5,7 @@ use Rattle.std.proofs.lemmas.Bool.{eqb-true}
 use Rattle.std.proofs.lemmas.List.{append-nil}
 use Rattle.keyring_text.specs.Fields.{IsBytes, SpellsNumber}
 use Rattle.keyring_text.specs.Forms.{Joined, SpellsAll, SpellsList, SpellsKeyed}
-use Rattle.keyring_text.specs.Reading.{◌>>=◌, checked, all_at, keyed_at}
+use Rattle.keyring_text.specs.FieldReading.{◌>>=◌, checked, all_at, keyed_at}
 use Rattle.keyring_text.proofs.Laws.{Taken, ReadsIf, Always, Reads, Put, Parted, step, field, last, alike, ok_is}
 
 -- the property, stated of the text

@@ -4,7 +4,7 @@ use Rattle.std.specs.List.{list_any}
 use Rattle.std.proofs.lemmas.List.{append-nil}
 use Rattle.keyring_text.specs.declared.fault.ReadRefused.{ReadRefused}
 use Rattle.keyring_text.specs.declared.fault.ReadRefused.TheVariants as refused
-use Rattle.keyring_text.specs.Reading.{◌>>=◌, Fails, all_at, keyed_at, new_at}
+use Rattle.keyring_text.specs.FieldReading.{◌>>=◌, Fails, all_at, keyed_at, new_at}
 use Rattle.keyring_text.proofs.Laws.{bind_ok}
 
 -- what was read before, and what is still read

@@ -7,7 +7,7 @@ use Rattle.std.specs.List.{list_any}
 use Rattle.std.specs.Ordering.{is_eq, match_ordering}
 use Rattle.keyring_text.specs.declared.fault.ReadRefused.{ReadRefused}
 use Rattle.keyring_text.specs.declared.fault.ReadRefused.TheVariants as refused
-use Rattle.keyring_text.specs.Reading.{◌>>=◌, Fails, new_at}
+use Rattle.keyring_text.specs.FieldReading.{◌>>=◌, Fails, new_at}
 use Rattle.keyring_text.specs.Seen.{stood_in, AddsKey}
 
 pub or-swap : (a b c : Bool) → (a || (b || c)) ≡ (b || (a || c))

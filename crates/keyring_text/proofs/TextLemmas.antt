@@ -4,7 +4,7 @@ use Rattle.std.specs.Option.{IfSome}
 use Rattle.std.specs.Result.{IfOk}
 use Rattle.std.specs.Str.{IsUtf8}
 use Rattle.kr_base.specs.Text.{HasZero, IsText}
-use Rattle.keyring_text.specs.Reading.{is_text}
+use Rattle.keyring_text.specs.FieldReading.{is_text}
 use Rattle.keyring_text.proofs.FieldLaws.{is_text-true, is_text-of}
 
 not_true : (b : Bool) → ((b ≡ true) → ⊥) → b ≡ false

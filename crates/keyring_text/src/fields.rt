@@ -1,7 +1,7 @@
 ghost use Rattle.std.specs.Prelude.{◌≡◌, List, ℕ, length, option_map, IfOk, Some, None, if◌then◌else◌};
 ghost use Rattle.keyring_text.specs.Fields.{IsBytes};
-ghost use Rattle.keyring_text.specs.Reading as reading;
-ghost use Rattle.keyring_text.specs.Reading.{Gives, is_text};
+ghost use Rattle.keyring_text.specs.FieldReading as reading;
+ghost use Rattle.keyring_text.specs.FieldReading.{Gives, is_text};
 
 use crate::{FieldFault, ReadRefused};
 use kr_base::{Bytes, OutOfMemory, Text};
@@ -24,7 +24,7 @@ pub fn span_at(bytes: &[u8], len: usize) -> Result<(&[u8], &[u8]), ReadRefused<F
 }
 
 /// A number, and the bytes after it. `Short` if there are fewer than four bytes.
-#[tactic(auto, unfolding(crate::specs::Reading::number_at, crate::specs::Fields::number_of))]
+#[tactic(auto, unfolding(crate::specs::FieldReading::number_at, crate::specs::Fields::number_of))]
 pub fn number_at(bytes: &[u8]) -> Result<(u32, &[u8]), ReadRefused<FieldFault>>
     ensures { Gives (λ x. (x.0, x.1.now)) result (reading.number_at bytes.now) }
 {
@@ -37,7 +37,7 @@ pub fn number_at(bytes: &[u8]) -> Result<(u32, &[u8]), ReadRefused<FieldFault>>
 }
 
 /// A time in seconds since 1970, and the bytes after it. `Short` if there are fewer than eight bytes.
-#[tactic(auto, unfolding(crate::specs::Reading::time_at, crate::specs::Fields::time_of))]
+#[tactic(auto, unfolding(crate::specs::FieldReading::time_at, crate::specs::Fields::time_of))]
 pub fn time_at(bytes: &[u8]) -> Result<(u64, &[u8]), ReadRefused<FieldFault>>
     ensures { Gives (λ x. (x.0, x.1.now)) result (reading.time_at bytes.now) }
 {
@@ -52,7 +52,7 @@ pub fn time_at(bytes: &[u8]) -> Result<(u64, &[u8]), ReadRefused<FieldFault>>
 }
 
 /// The bytes of a string, borrowed, and those after it. An absent string is read as no bytes.
-#[tactic(auto, unfolding(crate::specs::Reading::string_at))]
+#[tactic(auto, unfolding(crate::specs::FieldReading::string_at))]
 pub fn slice_at(bytes: &[u8]) -> Result<(&[u8], &[u8]), ReadRefused<FieldFault>>
     ensures { Gives (λ x. (x.0.now, x.1.now)) result (reading.string_at bytes.now) }
 {
@@ -73,7 +73,7 @@ pub fn string_at(alloc: Global, bytes: &[u8]) -> Result<(Bytes, &[u8]), ReadRefu
 
 /// A copy of the bytes as a text. None if they aren't UTF-8 or contain a zero byte; no memory
 /// is taken then.
-#[tactic(auto, unfolding(crate::specs::Reading::is_text))]
+#[tactic(auto, unfolding(crate::specs::FieldReading::is_text))]
 fn text_of(alloc: Global, bytes: &[u8]) -> Result<Option<Text>, OutOfMemory>
     ensures { IfOk result (λ t. t ≡ (if is_text bytes.now then Some bytes.now else None)) }
 {
@@ -85,7 +85,7 @@ fn text_of(alloc: Global, bytes: &[u8]) -> Result<Option<Text>, OutOfMemory>
 
 /// A text, its bytes as they are in the file, and the bytes after it. `BadText` if the string is
 /// complete but isn't a text.
-#[tactic(auto, unfolding(crate::specs::Reading::text_at))]
+#[tactic(auto, unfolding(crate::specs::FieldReading::text_at))]
 pub fn name_at(alloc: Global, bytes: &[u8]) -> Result<(Text, &[u8], &[u8]), ReadRefused<FieldFault>>
     ensures text { Gives (λ x. (x.0, x.2.now)) result (reading.text_at bytes.now) }
     ensures bytes { IfOk result (λ x. x.1.now ≡ x.0) }

@@ -8,25 +8,25 @@
 //! and of bytes, which may be a secret, only their number is ever printed.
 #![tactic(auto)]
 
+mod attribute_laws;
 mod attributes;
 mod bytes;
 mod hashed;
 mod id_chunks;
 mod id_list;
 mod ids;
-mod laws;
 mod stem;
 mod steps;
 mod text;
 
+pub use attribute_laws::{
+    equal_attributes_are_one_list, pairs_gather_one_list, pairs_gather_what_is_gathered,
+};
 pub use attributes::{AttrValue, Attributes};
 pub use bytes::Bytes;
 pub use hashed::{HashedPair, HashedValue};
 pub use id_list::IdList;
 pub use ids::{ConnId, ItemId, PromptId, SessionId};
-pub use laws::{
-    equal_attributes_are_one_list, pairs_gather_one_list, pairs_gather_what_is_gathered,
-};
 pub use stem::Stem;
 pub use steps::Steps;
 pub use text::Text;

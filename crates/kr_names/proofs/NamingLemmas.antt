@@ -15,7 +15,7 @@ use Rattle.kr_names.specs.declared.object_name.ObjectName.TheVariants.{Nothing, 
 use Rattle.kr_names.specs.Escape.{is_path_byte}
 use Rattle.kr_names.specs.Path.{alias_limit, path_text, IsAliasName, IsName, IsPathOf}
 use Rattle.kr_names.specs.Naming.{is_stem, is_alias, is_number, is_name, name_at, name_of_path}
-use Rattle.kr_names.specs.Reading.{Reads}
+use Rattle.kr_names.specs.Reads.{Reads}
 use Rattle.kr_names.proofs.NameLemmas.{name_back}
 
 le_Decides : (a b : ℕ) → Decides (nat_le a b) (a ≤ b)

@@ -7,7 +7,7 @@ use Rattle.std.proofs.lemmas.List.Elements.{All-contains, All-from_get_or, All-h
 use Rattle.kr_base.specs.Text.{HasZero}
 use Rattle.kr_names.specs.Escape.{escaped, IsEscapeOf}
 use Rattle.kr_names.specs.Path.{collections, aliases, IsAliasName, IsPathOf, IsNumber, IsNumbered, IsCut}
-use Rattle.kr_names.specs.Reading.{Reads}
+use Rattle.kr_names.specs.Reads.{Reads}
 use Rattle.kr_base.specs.declared.ids.ItemId.{ItemId}
 use Rattle.kr_names.specs.declared.object_name.ObjectName.TheVariants.{Collection, Item, Alias}
 use denote.Ref.{Bor}

@@ -1,4 +1,4 @@
-pub mod Reading
+pub mod Reads
 pub mod Escape
 pub mod Path
 pub mod Naming

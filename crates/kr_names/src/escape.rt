@@ -1,7 +1,7 @@
 ghost use Rattle.std.specs.Prelude.{◌≡◌, ◌<◌, IfOk, false};
 ghost use Rattle.std.specs.Fmt.{digit_glyph};
 ghost use Rattle.kr_names.specs.Escape.{escaped, hex_value, unescaped, IsEscapeOf};
-ghost use Rattle.kr_names.specs.Reading.{Reads};
+ghost use Rattle.kr_names.specs.Reads.{Reads};
 
 use kr_base::{OutOfMemory, Stem, Text};
 use std::alloc::Global;

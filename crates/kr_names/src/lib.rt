@@ -6,11 +6,11 @@
 #![tactic(auto)]
 
 mod escape;
-mod laws;
 mod object_name;
 mod path;
+mod path_laws;
 
 pub use escape::{escaped_stem, stem_of_escaped};
-pub use laws::{a_path_has_one_name, a_path_is_that_of_its_name};
 pub use object_name::{ObjectName, is_alias_name};
 pub use path::{parse_path, path_of};
+pub use path_laws::{a_path_has_one_name, a_path_is_that_of_its_name};

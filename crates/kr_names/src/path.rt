@@ -3,7 +3,7 @@ ghost use Rattle.std.specs.Prelude.{◌≡◌, ◌≢◌, ℕ, ◌++◌, List, A
 ghost use Rattle.kr_names.specs.Escape.{IsEscapeOf};
 ghost use Rattle.kr_names.specs.Naming.{name_of_path};
 ghost use Rattle.kr_names.specs.Path.{service, agent, collections, aliases, sessions, prompts, HasPath, IsPathOf, IsNumber, IsNumbered, IsCut, IsNoWhole};
-ghost use Rattle.kr_names.specs.Reading.{Reads};
+ghost use Rattle.kr_names.specs.Reads.{Reads};
 
 use crate::escape::{escaped_stem, stem_of_escaped};
 use crate::object_name::{ObjectName, is_alias_name};

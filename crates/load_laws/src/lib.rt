@@ -5,8 +5,8 @@
 //! contract of a function that does nothing.
 #![tactic(auto)]
 
-mod laws;
+mod answer_laws;
 
-pub use laws::{
+pub use answer_laws::{
     a_load_counts_all, a_load_has_few_events, a_load_is_read_whole, a_load_loses_no_output,
 };

@@ -23,7 +23,7 @@ use Rattle.service_events.specs.service_prompts.specs.Announcing.{announced, clo
 use Rattle.service_events.specs.service_prompts.specs.Prompting.{ask_signal, ask_signal_in, completed_signal}
 use Rattle.service_events.specs.service_tables.specs.Opened.{contents_of}
 use Rattle.service_events.specs.service_tables.specs.Questions.{CollectionQuestions}
-use Rattle.service_events.specs.service_tables.specs.Reading.{asked_collections}
+use Rattle.service_events.specs.service_tables.specs.TablesReading.{asked_collections}
 use Rattle.service_events.specs.service_tables.specs.Sent.{Recipient, One, Sent}
 use Rattle.service_events.specs.service_tables.specs.State.{State}
 use Rattle.service_events.specs.service_tables.specs.Storing.{Brought}

@@ -20,7 +20,7 @@ use Rattle.prompt_state.specs.declared.row.Stage.TheVariants.{Made, Asked, Deriv
 use Rattle.service_events.specs.service_prompts.specs.Prompting.{ask_sent, ask_signal, ask_signal_in}
 use Rattle.service_events.specs.service_tables.specs.Opened.{contents_of}
 use Rattle.service_events.specs.service_tables.specs.Questions.{CollectionQuestions}
-use Rattle.service_events.specs.service_tables.specs.Reading.{asked_collections}
+use Rattle.service_events.specs.service_tables.specs.TablesReading.{asked_collections}
 use Rattle.service_events.specs.service_tables.specs.Sound.{IsSound}
 use Rattle.service_events.specs.service_tables.specs.State.{State}
 use Rattle.service_events.specs.service_tables.specs.Storing.{Brought}

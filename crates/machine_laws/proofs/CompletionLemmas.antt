@@ -22,7 +22,7 @@ use Rattle.service_events.specs.service_prompts.specs.Announcing.{announced, clo
 use Rattle.service_events.specs.service_prompts.specs.Prompting.{ask_sent, ask_signal, ask_signal_in, completed_sent, completed_signal}
 use Rattle.service_events.specs.service_tables.specs.Opened.{contents_of}
 use Rattle.service_events.specs.service_tables.specs.Questions.{CollectionQuestions}
-use Rattle.service_events.specs.service_tables.specs.Reading.{asked_collections}
+use Rattle.service_events.specs.service_tables.specs.TablesReading.{asked_collections}
 use Rattle.service_events.specs.service_tables.specs.Sound.{IsSound}
 use Rattle.service_events.specs.service_tables.specs.State.{State}
 use Rattle.service_events.specs.service_tables.specs.Storing.{Brought}

@@ -13,7 +13,7 @@ use Rattle.kr_base.specs.declared.ids.SessionId.{SessionId}
 use Rattle.kr_names.specs.declared.object_name.ObjectName.{ObjectName}
 use Rattle.kr_names.specs.declared.object_name.ObjectName.TheVariants as object
 use Rattle.kr_names.specs.Path.{path_text}
-use Rattle.service_events.specs.collection_store.specs.Reading.{content_at, item_at}
+use Rattle.service_events.specs.collection_store.specs.CollectionReading.{content_at, item_at}
 use Rattle.service_events.specs.collection_store.specs.State.{Held}
 use Rattle.service_events.specs.collection_table.specs.Rows.{CollectionRow, Rows, has_item, is_open, is_unlocked}
 use Rattle.keyring_file.specs.declared.area.FullItem.{FullItem}
@@ -38,7 +38,7 @@ use Rattle.service_events.specs.service_tables.specs.declared.fate.ReadFate.TheV
 use Rattle.service_events.specs.service_tables.specs.declared.fate.StoreFate.TheVariants as stored
 use Rattle.service_events.specs.service_tables.specs.Limits.{most_body}
 use Rattle.service_events.specs.service_tables.specs.Objects.{is_open_item, once}
-use Rattle.service_events.specs.service_tables.specs.Reading.{item_secret, secret_of}
+use Rattle.service_events.specs.service_tables.specs.TablesReading.{item_secret, secret_of}
 use Rattle.service_events.specs.service_tables.specs.Sent.{One, Sent, is_for}
 use Rattle.service_events.specs.service_tables.specs.State.{State}
 use Rattle.service_events.specs.service_tables.specs.Storing.{Brought}

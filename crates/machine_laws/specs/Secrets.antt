@@ -24,7 +24,7 @@ use Rattle.session_table.specs.Sessions.{owns}
 use Rattle.service_events.specs.service_tables.specs.Sent.{One, Sent}
 use Rattle.service_events.specs.service_tables.specs.Objects.{is_open_item, once}
 use Rattle.service_events.specs.service_tables.specs.Opened.{contents_of}
-use Rattle.service_events.specs.service_tables.specs.Reading.{asked_collections, item_secret, secret_of}
+use Rattle.service_events.specs.service_tables.specs.TablesReading.{asked_collections, item_secret, secret_of}
 use Rattle.service_events.specs.service_tables.specs.State.{State}
 use Rattle.service_events.specs.service_tables.specs.Storing.{Brought}
 use Rattle.service_events.specs.service_tables.specs.declared.fate.Fate.{Fate}

@@ -15,7 +15,7 @@ ghost use Rattle.service_events.specs.secret_calls.specs.declared.secret.Returne
 ghost use Rattle.service_events.specs.secret_calls.specs.Outs.{spelled_body};
 ghost use Rattle.session_table.specs.Sessions.{owns};
 ghost use Rattle.service_events.specs.service_tables.specs.Limits.{most_body};
-ghost use Rattle.service_events.specs.service_tables.specs.Reading.{secret_of};
+ghost use Rattle.service_events.specs.service_tables.specs.TablesReading.{secret_of};
 ghost use Rattle.service_events.specs.service_tables.specs.State.{State};
 ghost use Rattle.service_events.specs.service_tables.specs.Storing.{Brought};
 ghost use Rattle.service_events.specs.service_tables.specs.declared.fate.Fate.{Fate};

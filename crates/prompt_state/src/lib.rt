@@ -7,14 +7,14 @@
 //! does a caller that asks each again after `register`.
 #![tactic(auto)]
 
-mod laws;
+mod completion_laws;
 mod owned;
 mod row;
 mod rows;
 mod table;
 mod targets;
 
-pub use laws::a_prompt_completes_once;
+pub use completion_laws::a_prompt_completes_once;
 pub use row::{Ask, Ended, PromptKind, PromptRow, Prompts, Stage};
 pub use table::{PromptRefused, PromptState};
 pub use targets::{Target, Targets};

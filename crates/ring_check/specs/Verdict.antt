@@ -5,7 +5,7 @@ use denote.Ref.{Bor}
 use Rattle.key_derivation.specs.Kdf.{Inputs, key_of, vector_of}
 use Rattle.keyring_file.specs.Clear.{ClearPart}
 use Rattle.keyring_file.specs.Limits.{file_limit}
-use Rattle.keyring_file.specs.Reading.{clear_read}
+use Rattle.keyring_file.specs.FileReading.{clear_read}
 use Rattle.keyring_file.specs.declared.fault.AreaFault.TheVariants as area
 use Rattle.keyring_file.specs.declared.fault.ClearFault.{ClearFault}
 use Rattle.keyring_seal.specs.Whole.{opened}

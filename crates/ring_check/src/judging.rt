@@ -2,7 +2,7 @@
 ghost use Rattle.std.specs.Prelude.{◌≡◌, ◌%◌, ◌≤◌, drop, length, map, Ok, IfOk};
 ghost use Rattle.key_derivation.specs.Kdf.{key_of, vector_of};
 ghost use Rattle.aes_cbc.specs.Cbc.{decrypted};
-ghost use Rattle.keyring_file.specs.Reading.{clear_read};
+ghost use Rattle.keyring_file.specs.FileReading.{clear_read};
 ghost use Rattle.keyring_seal.specs.Whole.{opened};
 ghost use Rattle.ring_check.specs.Verdict.{password_in, summary_of, opened_row, clear_row, judged, verdict_of};
 

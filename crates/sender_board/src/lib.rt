@@ -10,15 +10,15 @@
 mod action;
 mod agent_start;
 mod board;
+mod board_laws;
 mod hearing;
-mod laws;
 mod message;
 mod rows;
 
 pub use action::{Action, Refusal};
 pub use agent_start::{AgentStart, Start};
 pub use board::Board;
-pub use laws::{
+pub use board_laws::{
     a_connection_is_for_a_sender_that_was_looked_up, a_question_is_open_only_if_it_was_asked,
     only_the_bus_and_calls_count, what_waits_is_bounded,
 };

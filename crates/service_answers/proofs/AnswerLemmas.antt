@@ -44,7 +44,7 @@ use Rattle.service_calls.specs.service_tables.specs.Connections.{HasRoom, spread
 use Rattle.service_calls.specs.service_tables.specs.Desks.{Table}
 use Rattle.service_calls.specs.service_tables.specs.Opened.{Contents, contents_of}
 use Rattle.service_calls.specs.service_tables.specs.Questions.{CollectionQuestions}
-use Rattle.service_calls.specs.service_tables.specs.Reading.{asked_collections, label_of}
+use Rattle.service_calls.specs.service_tables.specs.TablesReading.{asked_collections, label_of}
 use Rattle.service_calls.specs.service_tables.specs.Slots.{IsReadFault, file_at}
 use Rattle.service_calls.specs.service_tables.specs.State.{State}
 use Rattle.service_calls.specs.service_tables.specs.declared.fate.ReadFate.{ReadFate}

@@ -36,7 +36,7 @@ use Rattle.service_calls.specs.service_events.specs.PublicBody as public
 use Rattle.service_calls.specs.secret_calls.specs.declared.out.Body.TheVariants as body
 use Rattle.service_calls.specs.service_tables.specs.Disk.{DiskState}
 use Rattle.service_calls.specs.service_tables.specs.Opened.{contents_of}
-use Rattle.service_calls.specs.service_tables.specs.Reading.{asked_collections}
+use Rattle.service_calls.specs.service_tables.specs.TablesReading.{asked_collections}
 use Rattle.service_calls.specs.service_tables.specs.State.{State}
 use Rattle.service_calls.specs.service_tables.specs.Sound.{IsSoundKind, IsSoundPrompt}
 use Rattle.service_calls.specs.service_tables.specs.Connections.{spread}

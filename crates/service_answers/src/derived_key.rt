@@ -4,7 +4,7 @@ ghost use Rattle.std.specs.Option.{is_some};
 ghost use Rattle.kr_base.specs.declared.ids.ConnId.{ConnId};
 ghost use Rattle.kr_names.specs.Path.{IsAliasName};
 ghost use Rattle.service_calls.specs.folder_store.specs.Limits.{the_limits};
-ghost use Rattle.service_calls.specs.service_tables.specs.Reading.{asked_collections};
+ghost use Rattle.service_calls.specs.service_tables.specs.TablesReading.{asked_collections};
 ghost use Rattle.service_calls.specs.collection_table.specs.Entries.{changed, inserted};
 ghost use Rattle.service_calls.specs.collection_table.specs.Rows.{CollectionRow, has as has_collection, locked};
 ghost use Rattle.prompt_state.specs.Prompts.{derives_in, last_round, next_round, row_at};

@@ -21,7 +21,7 @@ use Rattle.service_events.specs.collection_table.specs.Entries.{without}
 use Rattle.service_events.specs.collection_table.specs.Rows.{Rows, has, is_open, is_unlocked}
 use Rattle.service_events.specs.service_tables.proofs.DiskLemmas.{without-apart, without-here}
 use Rattle.service_events.specs.service_tables.specs.Opened.{contents_of}
-use Rattle.service_events.specs.service_tables.specs.Reading.{asked_collections}
+use Rattle.service_events.specs.service_tables.specs.TablesReading.{asked_collections}
 use Rattle.service_events.specs.service_tables.specs.State.{State}
 use Rattle.service_events.specs.service_tables.specs.Questions.{CollectionQuestions}
 use Rattle.service_events.specs.PromptCalls.{passed, passed_kind, passed_over, passed_row}

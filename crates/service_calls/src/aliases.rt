@@ -8,7 +8,7 @@ ghost use Rattle.service_events.specs.Run.{asked};
 ghost use Rattle.service_calls.specs.Done.{Leads, reads};
 ghost use Rattle.service_events.specs.service_tables.specs.Aliases.{IsForAliases, IsPreparedFor, are_doubtful};
 ghost use Rattle.service_events.specs.service_tables.specs.Opened.{contents_of};
-ghost use Rattle.service_events.specs.service_tables.specs.Reading.{alias_of};
+ghost use Rattle.service_events.specs.service_tables.specs.TablesReading.{alias_of};
 ghost use Rattle.service_events.specs.service_tables.specs.Storing.{Brought};
 
 use crate::Tables;

@@ -8,7 +8,7 @@ ghost use Rattle.service_events.specs.ServiceCalls.{create_collection, creating}
 ghost use Rattle.service_calls.specs.Done.{HasRoomToReply, Leads};
 ghost use Rattle.service_events.specs.service_tables.specs.Connections.{HasRoom};
 ghost use Rattle.service_events.specs.service_tables.specs.Opened.{contents_of};
-ghost use Rattle.service_events.specs.service_tables.specs.Reading.{asked_collections};
+ghost use Rattle.service_events.specs.service_tables.specs.TablesReading.{asked_collections};
 ghost use Rattle.service_events.specs.service_tables.specs.Storing.{Brought};
 
 use crate::Tables;

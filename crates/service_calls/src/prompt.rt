@@ -19,7 +19,7 @@ ghost use Rattle.service_calls.specs.Done.{HasRoomToReply, Leads};
 ghost use Rattle.service_events.specs.service_tables.specs.Connections.{HasRoom, spread};
 ghost use Rattle.service_events.specs.service_tables.specs.Disk.{contents_in};
 ghost use Rattle.service_events.specs.service_tables.specs.Opened.{contents_of};
-ghost use Rattle.service_events.specs.service_tables.specs.Reading.{asked_collections};
+ghost use Rattle.service_events.specs.service_tables.specs.TablesReading.{asked_collections};
 ghost use Rattle.service_events.specs.service_tables.specs.Storing.{Brought};
 ghost use Rattle.service_events.specs.service_tables.specs.signal_fanout.specs.declared.rows.ConnRow.{ConnRow};
 

@@ -4,7 +4,7 @@ ghost use Rattle.std.specs.List.{filter_map};
 ghost use Rattle.service_events.specs.PropertyCalls.{collection_held, get, get_all, holder_of, of_collection, of_item, of_service, shown_by, value_of};
 ghost use Rattle.service_events.specs.service_tables.specs.Objects.{collection_named};
 ghost use Rattle.service_events.specs.service_tables.specs.Opened.{contents_of};
-ghost use Rattle.service_events.specs.service_tables.specs.Reading.{asked_collections};
+ghost use Rattle.service_events.specs.service_tables.specs.TablesReading.{asked_collections};
 ghost use Rattle.service_events.specs.service_tables.specs.Storing.{Brought};
 ghost use Rattle.service_events.specs.Run.{asked};
 ghost use Rattle.service_calls.specs.Done.{reads};

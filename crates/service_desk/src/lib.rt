@@ -6,10 +6,10 @@
 #![tactic(auto)]
 
 mod desk;
-mod laws;
 mod sides;
+mod view_laws;
 
 pub use desk::Desk;
-pub use laws::{an_answer_stands_at_its_place, calls_compose, views_go_on};
 pub use service_events::{JoinRefused, secret_calls};
 pub use sides::{ReadDesk, WriteDesk};
+pub use view_laws::{an_answer_stands_at_its_place, calls_compose, views_go_on};

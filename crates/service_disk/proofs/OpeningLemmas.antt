@@ -19,7 +19,7 @@ use Rattle.service_tables.specs.keyring_seal.specs.declared.content.Content.{Con
 use Rattle.service_tables.specs.keyring_seal.specs.declared.opening.OpenFault.{OpenFault}
 use Rattle.service_tables.specs.keyring_seal.specs.declared.opening.OpenFault.TheVariants as fault
 use Rattle.replace_slot.specs.Cell.{File, Known, Doubt, IsKnownFile}
-use Rattle.service_tables.specs.collection_store.specs.Reading.{Fits, Opens, Unlocks}
+use Rattle.service_tables.specs.collection_store.specs.CollectionReading.{Fits, Opens, Unlocks}
 use Rattle.service_tables.specs.collection_store.specs.State.{CollectionState, Held}
 use Rattle.service_tables.specs.collection_store.specs.declared.refused.UnlockRefused.{UnlockRefused}
 use Rattle.service_tables.specs.collection_store.specs.declared.refused.UnlockRefused.TheVariants as refused

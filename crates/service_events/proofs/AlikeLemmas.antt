@@ -29,7 +29,7 @@ use Rattle.service_prompts.specs.service_tables.specs.Sent.{One}
 use Rattle.service_prompts.specs.service_tables.specs.Objects.{alias_target, collection_named}
 use Rattle.service_prompts.specs.service_tables.specs.Opened.{contents_of}
 use Rattle.service_prompts.specs.service_tables.specs.Questions.{CollectionQuestions}
-use Rattle.service_prompts.specs.service_tables.specs.Reading.{asked_collections}
+use Rattle.service_prompts.specs.service_tables.specs.TablesReading.{asked_collections}
 use Rattle.service_prompts.specs.service_tables.specs.State.{State}
 use Rattle.service_prompts.specs.service_tables.specs.Storing.{Brought}
 use Rattle.service_events.specs.declared.event.Event.TheVariants as event

@@ -22,7 +22,7 @@ use Rattle.service_prompts.specs.service_tables.specs.State.{State}
 use Rattle.service_prompts.specs.service_tables.specs.declared.rows.ConnRows.{ConnRows}
 use Rattle.service_prompts.specs.service_tables.specs.Connections.{has}
 use Rattle.service_prompts.specs.service_tables.specs.Opened.{contents_of}
-use Rattle.service_prompts.specs.service_tables.specs.Reading.{asked_collections}
+use Rattle.service_prompts.specs.service_tables.specs.TablesReading.{asked_collections}
 use Rattle.service_events.specs.Plan.{Change, Open_session, Close_session, Lock_collection, Begin_prompt, Ask_prompt, Derive_key, Count_wrong, Clear_wrong, Go_on, End_prompt, Become_agent, Leave_agent, Demand, Store, Erase, Set_alias, Make, Rekey, Reading, Aliases_file, Collection_file, KeyTerms, Plan, Ends, Asks, Resolves, Opens}
 use Rattle.service_events.specs.PromptCalls.{gone_on}
 use Rattle.service_events.specs.Run.{key_with, made_of, asked, by_read, by_reading, by_test, demanded, failing, performed, performed_all, promised, sending, sent_all, sent_asked, sent_by, sent_opened, sent_settled, settled, filled, is_in_doubt, Ran, run, unlocked_with}

@@ -15,7 +15,7 @@ use Rattle.prompt_state.specs.declared.targets.Target.{Target}
 use Rattle.service_prompts.specs.service_tables.specs.Limits.{most_weight}
 use Rattle.service_prompts.specs.service_tables.specs.Opened.{contents_of}
 use Rattle.service_prompts.specs.service_tables.specs.Questions.{CollectionQuestions}
-use Rattle.service_prompts.specs.service_tables.specs.Reading.{asked_collections}
+use Rattle.service_prompts.specs.service_tables.specs.TablesReading.{asked_collections}
 use Rattle.service_prompts.specs.service_tables.specs.Sound.{AreSoundPrompts, AreSoundTargets, CanWait, HasLeft, IsSound, IsSoundKind, IsSoundPrompt, IsSoundTarget}
 use Rattle.service_prompts.specs.service_tables.specs.State.{State}
 use Rattle.service_prompts.specs.service_tables.specs.Targets.{weight, weight_of}

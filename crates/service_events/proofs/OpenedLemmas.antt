@@ -21,13 +21,13 @@ use Rattle.aes_cbc.proofs.StateLemmas.{IsSmall, IsState-added, IsState-inverse_m
 use Rattle.key_derivation.specs.Kdf.{Inputs, hashed, kdf, key_of, vector_of}
 use Rattle.keyring_text.specs.Fields.{IsBytes, SpellsString, some, none, number}
 use Rattle.keyring_text.specs.Forms.{SpellsAll}
-use Rattle.keyring_text.specs.Reading.{◌>>=◌}
+use Rattle.keyring_text.specs.FieldReading.{◌>>=◌}
 use Rattle.keyring_text.proofs.Laws.{IsBytes-behind}
 use Rattle.keyring_file.specs.AreaText.{AreaText, SpellsAccess, SpellsAttribute, SpellsAttributes, SpellsItem, SpellsValue}
 use Rattle.keyring_file.specs.Clear.{ClearPart, plain_content}
 use Rattle.keyring_file.specs.ClearText.{HasClear, SpellsClearItem, SpellsContent, left_out, told}
 use Rattle.keyring_file.specs.Known.{IsKnownAccess, IsKnownClearItem, IsKnownItem, IsKnownPair, IsKnownValue}
-use Rattle.keyring_file.specs.Reading.{area_read, clear_read}
+use Rattle.keyring_file.specs.FileReading.{area_read, clear_read}
 use Rattle.keyring_file.specs.declared.area.Access.{Access}
 use Rattle.keyring_file.specs.declared.area.FullItem.{FullItem}
 use Rattle.keyring_file.specs.declared.clear.ClearItem.{ClearItem}

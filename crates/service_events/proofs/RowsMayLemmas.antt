@@ -49,7 +49,7 @@ use Rattle.service_events.specs.CollectionCalls.{by_fate, if_open, item_named, m
 use Rattle.service_events.specs.ItemCalls.{get_secret, secret_if_open}
 use Rattle.service_prompts.specs.service_tables.specs.Objects.{alias_target, collection_around, collection_named, is_open_item, is_there, item_paths, once}
 use Rattle.service_prompts.specs.service_tables.specs.Opened.{contents_of}
-use Rattle.service_prompts.specs.service_tables.specs.Reading.{alias_of, asked_collections, secret_of}
+use Rattle.service_prompts.specs.service_tables.specs.TablesReading.{alias_of, asked_collections, secret_of}
 use Rattle.service_events.specs.Plan.{Open_session, Close_session, Lock_collection, Begin_prompt, Derive_key, Go_on, End_prompt, Become_agent, Leave_agent, Demand, Store, Erase, Set_alias, Aliases_file, Collection_file, Gift, Secret_of, Secrets_of, Plan, Asks, refused, answered, given}
 use Rattle.service_events.specs.PromptCalls.{first_advance}
 use Rattle.service_events.specs.PublicBody as public

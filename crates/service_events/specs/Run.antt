@@ -30,7 +30,7 @@ use Rattle.stem_choice.specs.Choice.{chosen}
 use Rattle.stem_choice.specs.UsedStems.{with_stem}
 use Rattle.service_prompts.specs.Announcing.{announced, closing_signals}
 use Rattle.service_prompts.specs.Prompting.{ask_sent, asks_sent, completed_sent}
-use Rattle.service_prompts.specs.service_tables.specs.Reading.{asked_collections, asked_prompts, item_secret, secret_of}
+use Rattle.service_prompts.specs.service_tables.specs.TablesReading.{asked_collections, asked_prompts, item_secret, secret_of}
 use Rattle.service_prompts.specs.service_tables.specs.Storing.{Brought, change_of, rows_erased, rows_stored, storable_edit}
 use Rattle.service_prompts.specs.service_tables.specs.declared.fate.Fate.{Fate}
 use Rattle.service_prompts.specs.service_tables.specs.declared.fate.Fate.TheVariants as fate

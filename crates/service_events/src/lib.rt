@@ -10,7 +10,7 @@ mod boxed;
 mod event;
 mod fates;
 mod holder;
-mod laws;
+mod step_laws;
 
 pub use boxed::Boxed;
 pub use event::{
@@ -19,12 +19,12 @@ pub use event::{
 };
 pub use fates::Fates;
 pub use holder::Holder;
-pub use laws::{
-    alike_requests_lead_to_one_state, lists_of_events_go_on, outputs_can_wait,
-    steps_keep_the_rows_sound,
-};
 pub use service_disk;
 pub use service_prompts;
 pub use service_prompts::{
     alias_table, collection_store, folder_store, secret_calls, service_tables,
+};
+pub use step_laws::{
+    alike_requests_lead_to_one_state, lists_of_events_go_on, outputs_can_wait,
+    steps_keep_the_rows_sound,
 };

@@ -9,14 +9,14 @@
 //! copies no row: the base exists for contracts alone.
 #![tactic(auto)]
 
-mod laws;
 mod refused;
 mod service;
 mod window;
+mod window_laws;
 
-pub use laws::{
-    an_answer_is_the_output_at_its_place, calls_yield_windows_in_a_row, windows_are_one_history,
-};
 pub use refused::EventRefused;
 pub use service::Service;
 pub use service_machine;
+pub use window_laws::{
+    an_answer_is_the_output_at_its_place, calls_yield_windows_in_a_row, windows_are_one_history,
+};

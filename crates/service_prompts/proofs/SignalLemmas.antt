@@ -40,7 +40,7 @@ use Rattle.service_tables.specs.secret_calls.proofs.LengthLemmas.{AllAtMost, AtM
 use Rattle.service_tables.specs.secret_calls.proofs.SizeLemmas.{ask-fits, ask-waits, completed-fits, completed-waits, label-short, result_body}
 use Rattle.service_tables.specs.Connections.{size_of, spread}
 use Rattle.service_tables.specs.Limits.{most_weight}
-use Rattle.service_tables.specs.Reading.{label_of}
+use Rattle.service_tables.specs.TablesReading.{label_of}
 use Rattle.service_tables.specs.Sound.{AreSoundCollections, AreSoundPrompts, CanWait, IsSoundCollection, IsSoundKind, IsSoundPrompt, IsSoundTarget}
 use Rattle.service_tables.specs.Targets.{weight, weight_of}
 use Rattle.service_tables.specs.signal_fanout.specs.declared.rows.ConnRow.{ConnRow}

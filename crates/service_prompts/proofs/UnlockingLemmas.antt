@@ -11,7 +11,7 @@ use Rattle.prompt_state.specs.declared.targets.Target.{Target}
 use Rattle.service_tables.specs.secret_calls.specs.Outs.{ArePaths}
 use Rattle.service_tables.specs.Objects.{collection_around, is_listed}
 use Rattle.service_tables.specs.Opened.{Contents}
-use Rattle.service_tables.specs.Reading.{asked_collections}
+use Rattle.service_tables.specs.TablesReading.{asked_collections}
 use Rattle.service_tables.specs.Sound.{AreSoundCollections, IsSoundTarget}
 use Rattle.service_tables.proofs.CollectionLemmas.{named-paths, named-stem, once-each, path-of, there-named}
 use Rattle.service_tables.proofs.EachLemmas.{each-append}

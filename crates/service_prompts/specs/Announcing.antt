@@ -21,7 +21,7 @@ use Rattle.service_tables.specs.secret_calls.specs.declared.signal.Signal.{Signa
 use Rattle.service_tables.specs.secret_calls.specs.declared.signal.Signal.TheVariants as signal
 use Rattle.service_tables.specs.declared.fate.StoreFate.{StoreFate}
 use Rattle.service_tables.specs.declared.fate.StoreFate.TheVariants as fate
-use Rattle.service_tables.specs.Reading.{shown_attribute}
+use Rattle.service_tables.specs.TablesReading.{shown_attribute}
 use Rattle.service_tables.specs.Sent.{Everyone, Sent}
 
 -- a signal goes to everyone

@@ -23,7 +23,7 @@ use Rattle.service_tables.specs.secret_calls.specs.declared.signal.AskKind.TheVa
 use Rattle.service_tables.specs.secret_calls.specs.declared.signal.Completion.{Completion}
 use Rattle.service_tables.specs.secret_calls.specs.declared.signal.Completion.TheVariants as completion
 use Rattle.service_tables.specs.secret_calls.specs.declared.signal.Signal.TheVariants as signal
-use Rattle.service_tables.specs.Reading.{label_of}
+use Rattle.service_tables.specs.TablesReading.{label_of}
 use Rattle.service_tables.specs.Sent.{One, Sent}
 use Rattle.service_prompts.specs.Unlocking.{given_of}
 

@@ -5,7 +5,7 @@ ghost use Rattle.prompt_state.specs.Prompts.{registered};
 ghost use Rattle.service_tables.specs.secret_calls.specs.Outs.{shown_label};
 ghost use Rattle.service_tables.specs.Connections.{spread};
 ghost use Rattle.service_tables.specs.Disk.{contents_in};
-ghost use Rattle.service_tables.specs.Reading.{label_of};
+ghost use Rattle.service_tables.specs.TablesReading.{label_of};
 ghost use Rattle.service_tables.specs.Sent.{Sent};
 ghost use Rattle.service_tables.specs.signal_fanout.specs.declared.rows.ConnRow.{ConnRow};
 ghost use Rattle.service_tables.specs.signal_fanout.specs.declared.rows.Delivery.{Delivery};

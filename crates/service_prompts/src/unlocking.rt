@@ -3,7 +3,7 @@ ghost use Rattle.std.specs.Prelude.{◌≡◌, ℕ, min, IfOk, IfSome, OnOk, tru
 ghost use Rattle.kr_names.specs.Path.{HasPath, path_text};
 ghost use Rattle.service_tables.specs.Disk.{contents_in};
 ghost use Rattle.service_tables.specs.Objects.{HaveSamePaths};
-ghost use Rattle.service_tables.specs.Reading.{asked_collections};
+ghost use Rattle.service_tables.specs.TablesReading.{asked_collections};
 ghost use Rattle.service_tables.specs.Targets.{are_light, weight, weight_of};
 ghost use Rattle.service_prompts.specs.Unlocking.{given_of, is_unlocked, target_of, targets_of, unlocked_there, with_some, with_target};
 

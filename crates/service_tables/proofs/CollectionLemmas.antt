@@ -23,7 +23,7 @@ use Rattle.keyring_file.specs.Known.{IsKnownClearItem, IsKnownItem}
 use Rattle.keyring_file.specs.declared.area.FullItem.{FullItem}
 use Rattle.keyring_file.specs.declared.clear.ClearItem.{ClearItem}
 use Rattle.keyring_seal.specs.Arranged.{Row, row_number}
-use Rattle.collection_store.specs.Reading.{content_at, found, item_at}
+use Rattle.collection_store.specs.CollectionReading.{content_at, found, item_at}
 use Rattle.collection_store.specs.State.{Held}
 use Rattle.collection_table.specs.declared.matches.Matches.{Matches}
 use Rattle.collection_table.specs.Entries.{changed}
@@ -39,7 +39,7 @@ use Rattle.signal_fanout.specs.secret_calls.proofs.SecretLemmas.{each_byte}
 use Rattle.service_tables.specs.Aliases.{pairs_of}
 use Rattle.service_tables.specs.Objects.{alias_target, collection_named, is_listed, is_open_item, is_there, item_paths, locked_paths, once, paths_in, paths_of, stem_where, unlocked_paths, with_object}
 use Rattle.service_tables.specs.Opened.{Contents}
-use Rattle.service_tables.specs.Reading.{alias_of, asked_collections, found_in, item_secret, secret_of, stem_there}
+use Rattle.service_tables.specs.TablesReading.{alias_of, asked_collections, found_in, item_secret, secret_of, stem_there}
 use Rattle.service_tables.specs.Sound.{AreSoundCollections, AreSoundItems, IsSoundCollection, IsSoundItem}
 use Rattle.service_tables.proofs.AliasLemmas.{is-alias}
 use Rattle.service_tables.proofs.EachLemmas.{each-append, each-filter, each-found, each-mapped, each-tested, each-weaker}

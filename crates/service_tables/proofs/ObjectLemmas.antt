@@ -4,13 +4,13 @@ use Rattle.std.specs.Option.{option_map, option_map_or}
 use Rattle.kr_base.specs.Attributes.{value_at}
 use Rattle.kr_base.specs.declared.attributes.AttrValue.{AttrValue}
 use Rattle.kr_base.specs.declared.ids.ItemId.{ItemId}
-use Rattle.collection_store.specs.Reading.{found}
+use Rattle.collection_store.specs.CollectionReading.{found}
 use Rattle.collection_store.specs.State.{CollectionState}
 use Rattle.collection_table.specs.Entries.{Entries, row_of, rows_of}
 use Rattle.collection_table.specs.Rows as collections
 use Rattle.collection_table.specs.Rows.{CollectionRow}
 use Rattle.collection_table.proofs.RowLemmas.{ids_are, value-rows}
-use Rattle.service_tables.specs.Reading.{clear_times, no_times}
+use Rattle.service_tables.specs.TablesReading.{clear_times, no_times}
 use Rattle.service_tables.specs.declared.times.Times.{Times}
 
 module _ {S : Type 0} (stem : List ℕ) (wanted : List (List ℕ × AttrValue)) (entries : Entries S) where

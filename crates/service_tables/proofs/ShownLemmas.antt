@@ -19,7 +19,7 @@ use Rattle.keyring_file.specs.declared.area.FullItem.{FullItem}
 use Rattle.collection_table.specs.Rows.{CollectionRow, Rows, item_of}
 use Rattle.signal_fanout.specs.secret_calls.specs.Outs.{ArePaths, AreAttributes}
 use Rattle.service_tables.specs.Objects.{collection_paths}
-use Rattle.service_tables.specs.Reading.{clear_times, full_times, item_attributes, item_label, item_times, no_times, shown_attribute, times_of}
+use Rattle.service_tables.specs.TablesReading.{clear_times, full_times, item_attributes, item_label, item_times, no_times, shown_attribute, times_of}
 use Rattle.service_tables.specs.Sound.{AreSoundCollections, IsSoundCollection}
 use Rattle.service_tables.specs.declared.times.Times.{Times}
 use Rattle.service_tables.proofs.CollectionLemmas.{at-stem, item-known, path-of}

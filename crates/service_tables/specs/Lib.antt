@@ -15,7 +15,7 @@ pub mod Limits
 pub mod Objects
 pub mod Opened
 pub mod Questions
-pub mod Reading
+pub mod TablesReading
 pub mod Slots
 pub mod Sound
 pub mod State

@@ -6,7 +6,7 @@ ghost use Rattle.kr_names.specs.Naming.{is_alias};
 ghost use Rattle.kr_names.specs.Path.{HasPath, IsAliasName};
 ghost use Rattle.service_tables.specs.Objects.{alias_target, collection_around, collection_named, is_open_item, is_there, once, paths_of};
 ghost use Rattle.service_tables.specs.Disk.{contents_in};
-ghost use Rattle.service_tables.specs.Reading.{alias_of, asked_collections};
+ghost use Rattle.service_tables.specs.TablesReading.{alias_of, asked_collections};
 
 use crate::Disk;
 use crate::paths::{put_object, put_path};

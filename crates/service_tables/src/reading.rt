@@ -4,7 +4,7 @@ ghost use Rattle.std.specs.Option.{option_copied, option_map, option_map_or};
 ghost use Rattle.std.specs.List.{filter_map};
 ghost use Rattle.service_tables.specs.Disk.{contents_in};
 ghost use Rattle.attribute_match.specs.Match.{text_of};
-ghost use Rattle.service_tables.specs.Reading.{asked_collections, found_in, item_secret, no_times, secret_of, shown_attribute};
+ghost use Rattle.service_tables.specs.TablesReading.{asked_collections, found_in, item_secret, no_times, secret_of, shown_attribute};
 
 use crate::paths::item_path;
 use crate::{Disk, Times};

@@ -5,11 +5,11 @@
 #![tactic(auto)]
 
 mod choice;
-mod laws;
+mod stem_laws;
 mod used_stems;
 
 pub use choice::chosen_stem;
-pub use laws::{
+pub use stem_laws::{
     a_chosen_stem_is_a_stem, a_used_stem_is_in_the_list, adding_a_stem_uses_it_alone,
     the_chosen_stem_is_the_first_free_one,
 };

@@ -12,15 +12,15 @@
 
 mod calls;
 mod command;
-mod laws;
 mod printed;
 mod replies;
 mod script;
+mod script_laws;
 mod steps;
 
 pub use command::Command;
-pub use laws::{a_script_goes_on_or_ends, a_script_grows_by_its_next_call};
 pub use script::Script;
+pub use script_laws::{a_script_goes_on_or_ends, a_script_grows_by_its_next_call};
 pub use steps::{ScriptEnd, ScriptStatus, ToolStep};
 
 /// No memory was left for a call. It is the only refusal that may come at any time.

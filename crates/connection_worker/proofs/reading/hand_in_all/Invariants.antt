@@ -1,5 +1,5 @@
 use Rattle.std.proofs.Common.{◌≡◌}
-use Rattle.connection_worker.specs.Reading.{HandedSoFar}
+use Rattle.connection_worker.specs.Reader.{HandedSoFar}
 use Rattle.connection_worker.specs.Serving.{world}
 use Rattle.connection_worker.proofs.reading.hand_in_all.Given as goal
 

@@ -1,4 +1,4 @@
-use Rattle.connection_worker.specs.Reading.{ReadSoFar}
+use Rattle.connection_worker.specs.Reader.{ReadSoFar}
 use Rattle.connection_worker.specs.Serving.{world}
 use Rattle.connection_worker.specs.Streams.{input_of}
 use Rattle.connection_worker.proofs.reading.read_by.Given as goal

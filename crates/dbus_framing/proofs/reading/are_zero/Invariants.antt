@@ -1,5 +1,5 @@
 use Rattle.std.proofs.Common.{◌≡◌, length}
-use Rattle.dbus_marshal.specs.Reading.{are_zero}
+use Rattle.dbus_marshal.specs.Unmarshal.{are_zero}
 use Rattle.dbus_framing.proofs.reading.are_zero.Given as goal
 
 abbrev pub invariant-loop-byte : goal.invariant-loop-byte

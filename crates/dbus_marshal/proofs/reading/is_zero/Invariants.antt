@@ -1,6 +1,6 @@
 -- All bytes are zero exactly if those that are left are.
 use Rattle.std.proofs.Common.{◌≡◌, length}
-use Rattle.dbus_marshal.specs.Reading.{are_zero}
+use Rattle.dbus_marshal.specs.Unmarshal.{are_zero}
 use Rattle.dbus_marshal.proofs.reading.is_zero.Given as goal
 
 abbrev pub invariant-loop-byte : goal.invariant-loop-byte

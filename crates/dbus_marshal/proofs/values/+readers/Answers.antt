@@ -15,7 +15,7 @@ use Rattle.dbus_types.specs.Views.{type_of, types_of}
 use Rattle.dbus_types.specs.ValueViews.{value_of, values_of, core_as, value_as, each_as, fields_as, known_as}
 use Rattle.dbus_marshal.specs.Cursors.{spot_of}
 use Rattle.dbus_marshal.specs.declared.refused.ValueFault.{ValueFault}
-use Rattle.dbus_marshal.specs.Reading.{Spot, Reader, Refuses, padding_at, basic_at, entry_by, value_at, values_then}
+use Rattle.dbus_marshal.specs.Unmarshal.{Spot, Reader, Refuses, padding_at, basic_at, entry_by, value_at, values_then}
 use Rattle.dbus_types.proofs.Views.{struct_is}
 use Rattle.dbus_marshal.proofs.ValueReading.{refuses_as, value_at-basic, value_at-variant, value_at-array, value_at-struct, value_at-entry, too_deep, each_as-push, fields_push, fields_left, none_left, inner_are, array_are, lone_read, entry_are, read_as, basic_reads, variant_reads, elements_none, elements_over, elements_next, elements_fault, bytes_are, struct_are, is_basic, fields_next, fields_fault, fields_end}
 use Rattle.dbus_marshal.proofs.values.+readers.Goals as goal

@@ -3,7 +3,7 @@ use Rattle.std.proofs.Common.{◌≡◌, ◌+◌, ◌-◌, ◌*◌, length}
 use Rattle.dbus_types.specs.Views.{type_of, types_of}
 use Rattle.dbus_types.specs.ValueViews.{each_as, fields_as}
 use Rattle.dbus_marshal.specs.Cursors.{spot_of}
-use Rattle.dbus_marshal.specs.Reading.{value_at, elements_from, fields_by, with_values, with_fields}
+use Rattle.dbus_marshal.specs.Unmarshal.{value_at, elements_from, fields_by, with_values, with_fields}
 use Rattle.dbus_marshal.proofs.ValueReading.{AreLeft}
 use Rattle.dbus_marshal.proofs.values.+readers.Given as goal
 

@@ -1,8 +1,8 @@
 -- Each field is read where the field before it ends.
 use Rattle.std.proofs.lemmas.Result.{err_from_is_err_and}
-use Rattle.keyring_text.specs.Reading.{number_at, text_at}
+use Rattle.keyring_text.specs.FieldReading.{number_at, text_at}
 use Rattle.keyring_text.proofs.SeenLemmas.{fails-bind}
-use Rattle.keyring_file.specs.Reading.{access_at}
+use Rattle.keyring_file.specs.FileReading.{access_at}
 use Rattle.keyring_file.proofs.area_reading.access_at.Goals as goal
 
 pub returns-in_err-allowed : goal.returns-in_err-allowed

@@ -1,8 +1,8 @@
 -- Each field is read where the field before it ends.
 use Rattle.std.proofs.lemmas.Result.{err_from_is_err_and}
-use Rattle.keyring_text.specs.Reading.{string_at, text_at, time_at}
+use Rattle.keyring_text.specs.FieldReading.{string_at, text_at, time_at}
 use Rattle.keyring_text.proofs.SeenLemmas.{fails-bind}
-use Rattle.keyring_file.specs.Reading.{item_at}
+use Rattle.keyring_file.specs.FileReading.{item_at}
 use Rattle.keyring_file.proofs.area_reading.item_at.Goals as goal
 
 pub returns-in_err-label : goal.returns-in_err-label

@@ -1,9 +1,9 @@
 use Rattle.std.proofs.Common.{refl}
 use Rattle.std.proofs.lemmas.Result.{err_from_is_err_and}
-use Rattle.keyring_text.specs.Reading.{all_at}
+use Rattle.keyring_text.specs.FieldReading.{all_at}
 use Rattle.keyring_text.proofs.Loops.{all-goes_on, all-ends, all-is_done, all-begins}
 use Rattle.keyring_text.proofs.SeenLemmas.{fails-bind}
-use Rattle.keyring_file.specs.Reading.{item_at, items_read}
+use Rattle.keyring_file.specs.FileReading.{item_at, items_read}
 use Rattle.keyring_file.proofs.area_reading.items_of.Goals as goal
 
 pub loop-init : goal.loop-init

@@ -1,7 +1,7 @@
 use Rattle.std.proofs.lemmas.Result.{err_from_is_err_and}
-use Rattle.keyring_text.specs.Reading.{all_at}
+use Rattle.keyring_text.specs.FieldReading.{all_at}
 use Rattle.keyring_text.proofs.Loops.{all-goes_on, all-ends, all-is_done, all-begins}
-use Rattle.keyring_file.specs.Reading.{access_at, so_many_accesses_at}
+use Rattle.keyring_file.specs.FileReading.{access_at, so_many_accesses_at}
 use Rattle.keyring_file.proofs.area_reading.so_many_accesses_at.Goals as goal
 
 pub loop-init : goal.loop-init

@@ -1,7 +1,7 @@
 use Rattle.std.proofs.Common.{◌≡◌, ◌-◌}
-use Rattle.keyring_text.specs.Reading.{all_at}
+use Rattle.keyring_text.specs.FieldReading.{all_at}
 use Rattle.keyring_text.proofs.Loops.{with_front}
-use Rattle.keyring_file.specs.Reading.{access_at}
+use Rattle.keyring_file.specs.FileReading.{access_at}
 use Rattle.keyring_file.proofs.area_reading.so_many_accesses_at.Given as goal
 
 abbrev pub invariant-loop : goal.invariant-loop

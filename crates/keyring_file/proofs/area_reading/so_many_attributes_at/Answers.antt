@@ -4,10 +4,10 @@ use Rattle.std.specs.List.{list_any}
 use Rattle.kr_base.specs.Attributes.{is_name}
 use Rattle.kr_base.specs.declared.attributes.AttrValue.{AttrValue}
 use Rattle.keyring_text.specs.declared.fault.FieldFault.TheVariants.{DuplicateName}
-use Rattle.keyring_text.specs.Reading.{text_at}
+use Rattle.keyring_text.specs.FieldReading.{text_at}
 use Rattle.keyring_text.proofs.Loops.{seen_after, seen_after-push, keyed-goes_on, keyed-ends, keyed-is_done, keyed-begins}
 use Rattle.keyring_file.specs.Names.{has_name}
-use Rattle.keyring_file.specs.Reading.{attribute_at, so_many_attributes_at}
+use Rattle.keyring_file.specs.FileReading.{attribute_at, so_many_attributes_at}
 use Rattle.keyring_file.proofs.Keeps.{attribute-keeps}
 use Rattle.keyring_file.proofs.area_reading.so_many_attributes_at.Goals as goal
 

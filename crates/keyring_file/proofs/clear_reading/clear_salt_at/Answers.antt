@@ -1,4 +1,4 @@
-use Rattle.keyring_file.specs.Reading.{salt_at}
+use Rattle.keyring_file.specs.FileReading.{salt_at}
 use Rattle.keyring_file.proofs.Refusals.{fails-clear}
 use Rattle.keyring_file.proofs.clear_reading.clear_salt_at.Goals as goal
 

@@ -1,8 +1,8 @@
 -- Each field is read where the field before it ends.
 use Rattle.std.proofs.lemmas.Result.{err_from_is_err_and}
-use Rattle.keyring_text.specs.Reading.{text_at, time_at}
+use Rattle.keyring_text.specs.FieldReading.{text_at, time_at}
 use Rattle.keyring_text.proofs.SeenLemmas.{fails-bind}
-use Rattle.keyring_file.specs.Reading.{front_at}
+use Rattle.keyring_file.specs.FileReading.{front_at}
 use Rattle.keyring_file.proofs.clear_reading.front_at.Goals as goal
 
 pub returns-in_err-name : goal.returns-in_err-name

@@ -1,4 +1,4 @@
-use Rattle.keyring_text.specs.Reading.{number_at}
+use Rattle.keyring_text.specs.FieldReading.{number_at}
 use Rattle.keyring_file.proofs.Refusals.{fails-clear}
 use Rattle.keyring_file.proofs.clear_reading.id_at.Goals as goal
 

@@ -1,4 +1,4 @@
-use Rattle.keyring_file.specs.Reading.{clear_item_at}
+use Rattle.keyring_file.specs.FileReading.{clear_item_at}
 use Rattle.keyring_file.proofs.Refusals.{fails-clear}
 use Rattle.keyring_file.proofs.clear_reading.item_behind.Goals as goal
 

@@ -1,5 +1,5 @@
 use Rattle.keyring_text.proofs.SeenLemmas.{fails-bind}
-use Rattle.keyring_file.specs.Reading.{front_at, limited_at, in_clear}
+use Rattle.keyring_file.specs.FileReading.{front_at, limited_at, in_clear}
 use Rattle.keyring_file.proofs.Refusals.{fails-clear}
 use Rattle.keyring_file.proofs.clear_reading.limited_at.Goals as goal
 

@@ -3,7 +3,7 @@ use Rattle.std.proofs.lemmas.Result.{err_from_is_err_and}
 use Rattle.keyring_text.proofs.SeenLemmas.{new-twice, new-rest}
 use Rattle.keyring_file.specs.declared.fault.ClearFault.TheVariants.{DuplicateId}
 use Rattle.keyring_file.specs.Numbers.{has_number}
-use Rattle.keyring_file.specs.Reading.{id_at, item_behind}
+use Rattle.keyring_file.specs.FileReading.{id_at, item_behind}
 use Rattle.keyring_file.proofs.Keeps.{behind-keeps}
 use Rattle.keyring_file.proofs.clear_reading.new_item_at.Goals as goal
 

@@ -1,10 +1,10 @@
 use Rattle.std.proofs.Common.{subst, ◌∙◌, refl}
 use Rattle.std.proofs.lemmas.Result.{err_from_is_err_and}
 use Rattle.keyring_text.specs.declared.fault.FieldFault.TheVariants.{DuplicateName}
-use Rattle.keyring_text.specs.Reading.{text_at}
+use Rattle.keyring_text.specs.FieldReading.{text_at}
 use Rattle.keyring_text.proofs.SeenLemmas.{new-twice, new-rest, fails-bind}
 use Rattle.keyring_file.specs.Names.{has_name, AddsName}
-use Rattle.keyring_file.specs.Reading.{pair_at, hashed_at}
+use Rattle.keyring_file.specs.FileReading.{pair_at, hashed_at}
 use Rattle.keyring_file.proofs.clear_reading.new_pair_at.Goals as goal
 
 pub returns-then-not-branch-clause-read : goal.returns-then-not-branch-clause-read

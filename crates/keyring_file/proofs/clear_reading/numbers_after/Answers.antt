@@ -1,9 +1,9 @@
 -- Each field is read where the field before it ends.
 use Rattle.std.proofs.Common.{refl}
 use Rattle.std.proofs.lemmas.Result.{err_from_is_err_and}
-use Rattle.keyring_text.specs.Reading.{number_at}
+use Rattle.keyring_text.specs.FieldReading.{number_at}
 use Rattle.keyring_text.proofs.SeenLemmas.{fails-bind}
-use Rattle.keyring_file.specs.Reading.{numbers_after}
+use Rattle.keyring_file.specs.FileReading.{numbers_after}
 use Rattle.keyring_file.proofs.clear_reading.numbers_after.Goals as goal
 
 pub returns-in_err-flags : goal.returns-in_err-flags

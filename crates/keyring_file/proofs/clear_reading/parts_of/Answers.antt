@@ -2,7 +2,7 @@
 use Rattle.std.proofs.Common.{refl}
 use Rattle.std.proofs.lemmas.Result.{err_from_is_err_and}
 use Rattle.keyring_text.proofs.SeenLemmas.{fails-bind}
-use Rattle.keyring_file.specs.Reading.{clear_read, clear_at, encrypted_at}
+use Rattle.keyring_file.specs.FileReading.{clear_read, clear_at, encrypted_at}
 use Rattle.keyring_file.proofs.clear_reading.parts_of.Goals as goal
 
 pub returns-in_err-clear : goal.returns-in_err-clear

@@ -1,9 +1,9 @@
 -- Each field is read where the field before it ends.
 use Rattle.std.proofs.Common.{refl}
 use Rattle.std.proofs.lemmas.Result.{err_from_is_err_and}
-use Rattle.keyring_text.specs.Reading.{span_at}
+use Rattle.keyring_text.specs.FieldReading.{span_at}
 use Rattle.keyring_text.proofs.SeenLemmas.{fails-bind}
-use Rattle.keyring_file.specs.Reading.{salt_at}
+use Rattle.keyring_file.specs.FileReading.{salt_at}
 use Rattle.keyring_file.proofs.clear_reading.salt_at.Goals as goal
 
 pub returns-in_err-salt-clause-read : goal.returns-in_err-salt-clause-read

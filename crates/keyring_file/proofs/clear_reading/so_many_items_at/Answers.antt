@@ -1,11 +1,11 @@
 use Rattle.std.proofs.Common.{◌≡◌, ℕ, nat_eq, [], ◌∷◌, ◌++◌, Ok, subst}
 use Rattle.std.proofs.lemmas.Result.{err_from_is_err_and}
-use Rattle.keyring_text.specs.Reading.{Fails}
+use Rattle.keyring_text.specs.FieldReading.{Fails}
 use Rattle.keyring_text.proofs.Loops.{seen_after, keyed-goes_on, keyed-ends, keyed-is_done, keyed-begins}
 use Rattle.keyring_file.specs.declared.clear.ClearItem.{ClearItem}
 use Rattle.keyring_file.specs.declared.fault.ClearFault.TheVariants.{DuplicateId}
 use Rattle.keyring_file.specs.Numbers.{Keeps, has_number}
-use Rattle.keyring_file.specs.Reading.{id_at, item_behind, new_item_at, so_many_items_at}
+use Rattle.keyring_file.specs.FileReading.{id_at, item_behind, new_item_at, so_many_items_at}
 use Rattle.keyring_file.proofs.Keeps.{behind-keeps}
 use Rattle.keyring_file.proofs.NumberLemmas.{stood-seen}
 use Rattle.keyring_file.proofs.clear_reading.so_many_items_at.Goals as goal

@@ -1,9 +1,9 @@
 use Rattle.std.proofs.Common.{◌≡◌, ◌-◌, nat_eq, []}
-use Rattle.keyring_text.specs.Reading.{keyed_at}
+use Rattle.keyring_text.specs.FieldReading.{keyed_at}
 use Rattle.keyring_text.proofs.Loops.{with_front, seen_after}
 use Rattle.keyring_file.specs.declared.fault.ClearFault.TheVariants.{DuplicateId}
 use Rattle.keyring_file.specs.Numbers.{Keeps}
-use Rattle.keyring_file.specs.Reading.{id_at, item_behind, so_many_items_at}
+use Rattle.keyring_file.specs.FileReading.{id_at, item_behind, so_many_items_at}
 use Rattle.keyring_file.proofs.clear_reading.so_many_items_at.Given as goal
 
 abbrev pub invariant-loop : goal.invariant-loop

@@ -2,10 +2,10 @@ use Rattle.std.proofs.Common.{◌≡◌, ℕ, ◌-◌, List, []}
 use Rattle.std.specs.List.{list_any}
 use Rattle.kr_base.specs.Attributes.{is_name}
 use Rattle.keyring_text.specs.declared.fault.FieldFault.TheVariants.{DuplicateName}
-use Rattle.keyring_text.specs.Reading.{text_at, keyed_at}
+use Rattle.keyring_text.specs.FieldReading.{text_at, keyed_at}
 use Rattle.keyring_text.proofs.Loops.{with_front, seen_after}
 use Rattle.keyring_file.specs.Names.{has_name}
-use Rattle.keyring_file.specs.Reading.{pair_at, so_many_pairs_at}
+use Rattle.keyring_file.specs.FileReading.{pair_at, so_many_pairs_at}
 use Rattle.keyring_file.proofs.clear_reading.so_many_pairs_at.Given as goal
 
 abbrev pub invariant-loop : goal.invariant-loop

@@ -3,7 +3,7 @@ use Rattle.std.specs.List.{AllByRecursion}
 use Rattle.keyring_file.specs.AreaText.{AreaText}
 use Rattle.keyring_file.specs.ClearText.{ClearText}
 use Rattle.keyring_file.specs.Known.{IsKnownClearItem}
-use Rattle.keyring_file.specs.Reading.{area_read}
+use Rattle.keyring_file.specs.FileReading.{area_read}
 use Rattle.aes_cbc.specs.Cbc.{decrypted}
 use Rattle.key_derivation.specs.Kdf.{key_of, vector_of}
 use Rattle.keyring_seal.specs.declared.opening.OpenFault.TheVariants as open_fault

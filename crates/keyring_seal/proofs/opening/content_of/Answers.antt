@@ -1,7 +1,7 @@
 use Rattle.std.proofs.Common.{◌≡◌, ℕ, List, length, drop, Ok, ap, subst, ◌∙◌, rules, arith}
 use Rattle.keyring_text.specs.Fields.{IsBytes}
 use Rattle.keyring_file.specs.AreaText.{AreaText}
-use Rattle.keyring_file.specs.Reading.{area_read}
+use Rattle.keyring_file.specs.FileReading.{area_read}
 use Rattle.aes_cbc.specs.Cbc.{decrypted}
 use Rattle.key_derivation.specs.Kdf.{key_of, vector_of}
 use Rattle.keyring_seal.proofs.opening.content_of.Goals as goal

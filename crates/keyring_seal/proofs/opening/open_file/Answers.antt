@@ -1,6 +1,6 @@
 use Rattle.std.proofs.Common.{subst}
 use Rattle.key_derivation.specs.Kdf.{key_of, vector_of}
-use Rattle.keyring_text.specs.Reading.{Gives}
+use Rattle.keyring_text.specs.FieldReading.{Gives}
 use Rattle.keyring_seal.specs.Arranged.{IsSealable}
 use Rattle.keyring_seal.specs.Whole.{IsFileOf}
 use Rattle.keyring_seal.proofs.WholeLemmas.{sealable, then_holds}

@@ -6,7 +6,7 @@ use Rattle.service_calls.specs.service_events.specs.AnswerCalls.{answer_prompt, 
 use Rattle.service_calls.specs.service_events.specs.Plan.{Plan}
 use Rattle.service_calls.specs.Rows.{rows_of}
 use Rattle.service_calls.specs.service_tables.specs.Opened.{contents_of}
-use Rattle.service_calls.specs.service_tables.specs.Reading.{asked_collections}
+use Rattle.service_calls.specs.service_tables.specs.TablesReading.{asked_collections}
 use Rattle.service_calls.specs.service_events.specs.Run.{asked}
 use Rattle.service_calls.specs.declared.storing.Done.{Done}
 use Rattle.service_calls.proofs.LeadsLemmas.{leads-as, map-ok, room-silent}

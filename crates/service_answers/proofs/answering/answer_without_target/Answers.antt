@@ -2,7 +2,7 @@ use Rattle.std.proofs.Common.{◌≡◌, true, false, sym, ◌∙◌}
 use Rattle.prompt_state.specs.Prompts.{row_at}
 use Rattle.service_calls.specs.service_events.specs.AnswerCalls.{makes_key_row}
 use Rattle.service_calls.specs.service_tables.specs.Opened.{contents_of}
-use Rattle.service_calls.specs.service_tables.specs.Reading.{asked_collections}
+use Rattle.service_calls.specs.service_tables.specs.TablesReading.{asked_collections}
 use Rattle.service_calls.specs.Rows.{disk_of, rows_of}
 use Rattle.service_answers.proofs.AnswerLemmas.{answered-derives, answered-over, room-kept, taken-round, taken-there}
 use Rattle.service_calls.proofs.LeadsLemmas.{leads-as, map-ok}

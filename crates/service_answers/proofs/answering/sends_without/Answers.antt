@@ -5,7 +5,7 @@ use Rattle.prompt_state.specs.Prompts.{row_at}
 use Rattle.service_calls.specs.service_tables.specs.Connections.{spread}
 use Rattle.service_calls.specs.service_tables.specs.Opened.{contents_of}
 use Rattle.service_calls.specs.service_tables.specs.Questions.{CollectionQuestions}
-use Rattle.service_calls.specs.service_tables.specs.Reading.{asked_collections}
+use Rattle.service_calls.specs.service_tables.specs.TablesReading.{asked_collections}
 use Rattle.service_calls.specs.service_events.specs.PromptCalls.{advance_sent, go_on_sent, passed_kind}
 use Rattle.service_calls.specs.Rows.{contents_left, rows_of}
 use Rattle.service_answers.proofs.AnswerLemmas.{sent-without}

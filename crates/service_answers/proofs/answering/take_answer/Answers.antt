@@ -4,7 +4,7 @@ use Rattle.prompt_state.specs.Prompts.{first_of_row, last_round, row_at}
 use Rattle.prompt_state.specs.declared.targets.Target.{Target}
 use Rattle.service_calls.specs.Rows.{rows_of}
 use Rattle.service_calls.specs.service_tables.specs.Opened.{contents_of}
-use Rattle.service_calls.specs.service_tables.specs.Reading.{asked_collections}
+use Rattle.service_calls.specs.service_tables.specs.TablesReading.{asked_collections}
 use Rattle.service_answers.proofs.AnswerLemmas.{answered-last, answered-target, none-first, taken-there}
 use Rattle.service_calls.proofs.LeadsLemmas.{leads-as, map-ok}
 use Rattle.service_answers.proofs.answering.take_answer.Goals as goal

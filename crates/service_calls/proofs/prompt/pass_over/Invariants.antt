@@ -1,6 +1,6 @@
 use Rattle.std.proofs.Common.{◌≡◌, length}
 use Rattle.service_events.specs.service_tables.specs.Disk.{contents_in}
-use Rattle.service_events.specs.service_tables.specs.Reading.{asked_collections}
+use Rattle.service_events.specs.service_tables.specs.TablesReading.{asked_collections}
 use Rattle.service_events.specs.PromptCalls.{passed}
 use Rattle.service_calls.specs.Rows.{contents_left}
 use Rattle.service_calls.proofs.prompt.pass_over.Given as goal

@@ -2,7 +2,7 @@ use Rattle.std.proofs.Common.{◌≡◌, drop}
 use Rattle.std.specs.List.{filter_map, fold}
 use Rattle.service_tables.specs.Disk.{contents_in}
 use Rattle.service_tables.specs.Objects.{HaveSamePaths}
-use Rattle.service_tables.specs.Reading.{asked_collections}
+use Rattle.service_tables.specs.TablesReading.{asked_collections}
 use Rattle.service_prompts.specs.Unlocking.{given_of, target_of, targets_of, with_target}
 use Rattle.service_prompts.proofs.unlocking.targets_of.Given as goal
 

@@ -2,7 +2,7 @@ use Rattle.std.proofs.Common.{◌≡◌, drop, filter}
 use Rattle.std.specs.List.{fold}
 use Rattle.service_tables.specs.Disk.{contents_in}
 use Rattle.service_tables.specs.Objects.{HaveSamePaths, once, paths_of, with_path}
-use Rattle.service_tables.specs.Reading.{asked_collections}
+use Rattle.service_tables.specs.TablesReading.{asked_collections}
 use Rattle.service_prompts.specs.Unlocking.{is_unlocked}
 use Rattle.service_prompts.proofs.unlocking.unlocked_there.Given as goal
 

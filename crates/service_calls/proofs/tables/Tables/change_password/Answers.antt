@@ -10,7 +10,7 @@ use Rattle.service_events.specs.secret_calls.specs.declared.out.Body.TheVariants
 use Rattle.service_events.specs.secret_calls.specs.declared.out.ErrorName.TheVariants as name
 use Rattle.service_events.specs.service_tables.specs.Objects.{collection_named}
 use Rattle.service_events.specs.service_tables.specs.Opened.{contents_of}
-use Rattle.service_events.specs.service_tables.specs.Reading.{asked_collections}
+use Rattle.service_events.specs.service_tables.specs.TablesReading.{asked_collections}
 use Rattle.service_calls.specs.Rows.{rows_of}
 use Rattle.service_calls.specs.declared.storing.Done.{Done}
 use Rattle.service_calls.proofs.LeadsLemmas.{leads-as, map-ok, room-silent}

@@ -4,7 +4,7 @@ use Rattle.service_events.specs.secret_calls.specs.declared.out.Body.{Body}
 use Rattle.service_events.specs.secret_calls.specs.declared.out.Body.TheVariants as body
 use Rattle.service_events.specs.secret_calls.specs.declared.out.ErrorName.{ErrorName}
 use Rattle.service_events.specs.service_tables.specs.Opened.{contents_of}
-use Rattle.service_events.specs.service_tables.specs.Reading.{asked_collections}
+use Rattle.service_events.specs.service_tables.specs.TablesReading.{asked_collections}
 use Rattle.service_calls.specs.Done.{reads}
 use Rattle.service_calls.specs.Rows.{rows_of}
 use Rattle.service_events.specs.Run.{asked}

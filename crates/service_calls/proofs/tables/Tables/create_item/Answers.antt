@@ -2,7 +2,7 @@ use Rattle.std.proofs.Common.{◌≡◌, Some, sym, ap, ◌∙◌}
 use Rattle.service_events.specs.collection_store.specs.declared.change.Change.TheVariants as change
 use Rattle.service_events.specs.service_tables.specs.Objects.{collection_named}
 use Rattle.service_events.specs.service_tables.specs.Opened.{contents_of}
-use Rattle.service_events.specs.service_tables.specs.Reading.{asked_collections}
+use Rattle.service_events.specs.service_tables.specs.TablesReading.{asked_collections}
 use Rattle.service_events.specs.service_tables.specs.Storing.{Add_item, Brought, Edit}
 use Rattle.service_events.specs.CollectionCalls.{create_item, made, on_collection, secret_stored}
 use Rattle.service_calls.specs.Rows.{rows_of}

@@ -4,7 +4,7 @@ use Rattle.service_events.specs.secret_calls.specs.declared.out.Body.TheVariants
 use Rattle.service_events.specs.secret_calls.specs.declared.out.ErrorName.TheVariants as name
 use Rattle.service_events.specs.service_tables.specs.Objects.{collection_named}
 use Rattle.service_events.specs.service_tables.specs.Opened.{Contents, contents_of}
-use Rattle.service_events.specs.service_tables.specs.Reading.{asked_collections}
+use Rattle.service_events.specs.service_tables.specs.TablesReading.{asked_collections}
 use Rattle.service_events.specs.service_tables.specs.State.{State}
 use Rattle.service_events.specs.service_tables.specs.Storing.{rows_erased}
 use Rattle.service_events.specs.service_tables.specs.declared.fate.Fate.TheVariants as fate

@@ -3,7 +3,7 @@ use Rattle.std.specs.Option.{option_copied}
 use Rattle.prompt_state.specs.Prompts.{row_at}
 use Rattle.service_events.specs.service_tables.specs.Connections.{spread}
 use Rattle.service_events.specs.service_tables.specs.Opened.{contents_of}
-use Rattle.service_events.specs.service_tables.specs.Reading.{asked_collections}
+use Rattle.service_events.specs.service_tables.specs.TablesReading.{asked_collections}
 use Rattle.service_events.specs.PromptCalls.{advance_sent, go_on_sent, passed_kind}
 use Rattle.service_calls.specs.Rows.{rows_of}
 use Rattle.service_calls.proofs.LeadsLemmas.{map-ok}

@@ -2,7 +2,7 @@ use Rattle.std.proofs.Common.{None, map, sym, ap, ◌∙◌, filter}
 use Rattle.service_events.specs.secret_calls.specs.declared.out.Body.TheVariants as body
 use Rattle.service_events.specs.service_tables.specs.Objects.{is_there, once, paths_of}
 use Rattle.service_events.specs.service_tables.specs.Opened.{contents_of}
-use Rattle.service_events.specs.service_tables.specs.Reading.{asked_collections}
+use Rattle.service_events.specs.service_tables.specs.TablesReading.{asked_collections}
 use Rattle.service_events.specs.Plan.{Lock_collection, answered}
 use Rattle.service_events.specs.PublicBody as public
 use Rattle.service_events.specs.Run.{asked}

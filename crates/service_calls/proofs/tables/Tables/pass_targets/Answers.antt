@@ -4,7 +4,7 @@ use Rattle.service_events.specs.collection_table.specs.Rows.{has, is_open}
 use Rattle.prompt_state.specs.Prompts.{first_of_row, next_round, row_at, targeted}
 use Rattle.prompt_state.specs.Targets.{first_done, first_dropped}
 use Rattle.service_events.specs.service_tables.specs.Opened.{contents_of}
-use Rattle.service_events.specs.service_tables.specs.Reading.{asked_collections}
+use Rattle.service_events.specs.service_tables.specs.TablesReading.{asked_collections}
 use Rattle.service_events.specs.PromptCalls.{passed_over}
 use Rattle.service_calls.specs.Rows.{rows_of}
 use Rattle.service_events.proofs.AdvanceLemmas.{fewer-left, left_in_row, round-targeted, there-targeted}

@@ -2,7 +2,7 @@ use Rattle.std.proofs.Common.{◌≡◌, length, true}
 use Rattle.std.specs.Option.{is_some}
 use Rattle.prompt_state.specs.Prompts.{next_round, row_at}
 use Rattle.service_events.specs.service_tables.specs.Opened.{contents_of}
-use Rattle.service_events.specs.service_tables.specs.Reading.{asked_collections}
+use Rattle.service_events.specs.service_tables.specs.TablesReading.{asked_collections}
 use Rattle.service_events.specs.PromptCalls.{passed_over}
 use Rattle.service_events.proofs.AdvanceLemmas.{left_in_row}
 use Rattle.service_calls.specs.Rows.{disk_of, rows_of}

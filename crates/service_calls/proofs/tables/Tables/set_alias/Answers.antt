@@ -2,7 +2,7 @@ use Rattle.std.proofs.Common.{◌≡◌, Some, sym, ap, subst, ◌∙◌}
 use Rattle.service_events.specs.service_tables.specs.Aliases.{IsPreparedFor}
 use Rattle.service_events.specs.service_tables.specs.Objects.{alias_target}
 use Rattle.service_events.specs.service_tables.specs.Opened.{contents_of}
-use Rattle.service_events.specs.service_tables.specs.Reading.{asked_collections}
+use Rattle.service_events.specs.service_tables.specs.TablesReading.{asked_collections}
 use Rattle.service_events.specs.service_tables.proofs.SlotLemmas.{of-some}
 use Rattle.service_events.specs.AliasCalls.{alias_settled, on_target}
 use Rattle.service_calls.specs.Rows.{disk_of, rows_of}

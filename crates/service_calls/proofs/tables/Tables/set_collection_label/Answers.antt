@@ -2,7 +2,7 @@ use Rattle.std.proofs.Common.{◌≡◌, Some, sym, ap, ◌∙◌}
 use Rattle.service_events.specs.collection_store.specs.declared.change.Change.TheVariants as change
 use Rattle.service_events.specs.service_tables.specs.Objects.{collection_named}
 use Rattle.service_events.specs.service_tables.specs.Opened.{contents_of}
-use Rattle.service_events.specs.service_tables.specs.Reading.{asked_collections}
+use Rattle.service_events.specs.service_tables.specs.TablesReading.{asked_collections}
 use Rattle.service_events.specs.service_tables.specs.Storing.{Brought, Edit, Set_name}
 use Rattle.service_events.specs.CollectionCalls.{on_collection}
 use Rattle.service_events.specs.PropertyCalls.{editing, set_collection_label}

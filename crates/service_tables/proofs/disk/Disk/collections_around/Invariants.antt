@@ -2,7 +2,7 @@ use Rattle.std.proofs.Common.{◌≡◌, ◌++◌, drop}
 use Rattle.std.specs.List.{filter_map}
 use Rattle.service_tables.specs.Objects.{collection_around}
 use Rattle.service_tables.specs.Disk.{contents_in}
-use Rattle.service_tables.specs.Reading.{asked_collections}
+use Rattle.service_tables.specs.TablesReading.{asked_collections}
 use Rattle.service_tables.proofs.disk.Disk.collections_around.Given as goal
 
 -- the stems so far, and those of the objects that are left

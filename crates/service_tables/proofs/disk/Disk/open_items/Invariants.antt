@@ -2,7 +2,7 @@ use Rattle.std.proofs.Common.{◌≡◌, drop, filter}
 use Rattle.std.specs.List.{fold}
 use Rattle.service_tables.specs.Objects.{HaveSamePaths, is_open_item, once, paths_of, with_object}
 use Rattle.service_tables.specs.Disk.{contents_in}
-use Rattle.service_tables.specs.Reading.{asked_collections}
+use Rattle.service_tables.specs.TablesReading.{asked_collections}
 use Rattle.service_tables.proofs.disk.Disk.open_items.Given as goal
 
 -- the paths of the objects that are listed so far are noted, and these with those that are left are all

@@ -1,7 +1,7 @@
 use Rattle.std.proofs.Common.{◌≡◌, ◌++◌, drop}
 use Rattle.std.specs.List.{filter_map}
 use Rattle.service_tables.specs.Disk.{contents_in}
-use Rattle.service_tables.specs.Reading.{item_secret}
+use Rattle.service_tables.specs.TablesReading.{item_secret}
 use Rattle.service_tables.proofs.disk.Disk.secrets.Given as goal
 
 -- the secrets so far, and those of the items that are left

@@ -2,7 +2,7 @@ use Rattle.std.proofs.Common.{◌≡◌, drop, filter}
 use Rattle.std.specs.List.{fold}
 use Rattle.service_tables.specs.Objects.{HaveSamePaths, is_there, once, paths_of, with_path}
 use Rattle.service_tables.specs.Disk.{contents_in}
-use Rattle.service_tables.specs.Reading.{asked_collections}
+use Rattle.service_tables.specs.TablesReading.{asked_collections}
 use Rattle.service_tables.proofs.disk.Disk.those_there.Given as goal
 
 -- the paths so far are noted, and these with those of the objects that are left are all

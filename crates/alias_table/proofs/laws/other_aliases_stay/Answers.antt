@@ -1,5 +1,0 @@
-use Rattle.alias_table.proofs.LookupLemmas.{other_is_kept}
-use Rattle.alias_table.proofs.laws.other_aliases_stay.Goals as goal
-
-pub returns : goal.returns
-returns c = other_is_kept

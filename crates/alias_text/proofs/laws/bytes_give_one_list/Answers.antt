@@ -1,5 +1,0 @@
-use Rattle.alias_text.proofs.LawLemmas.{one_reading}
-use Rattle.alias_text.proofs.laws.bytes_give_one_list.Goals as goal
-
-pub returns : goal.returns
-returns c = one_reading

@@ -1,5 +1,0 @@
-use Rattle.collection_table.proofs.RowLemmas.{row-removed}
-use Rattle.collection_table.proofs.laws.a_removal_leaves_its_row.Goals as goal
-
-pub returns : goal.returns
-returns g c = λ old new file clear other held. row-removed old new file clear other held

@@ -1,5 +1,0 @@
-use Rattle.connection_worker.proofs.ReplyLemmas.{replies-among}
-use Rattle.connection_worker.proofs.laws.each_request_has_one_reply.Goals as goal
-
-pub returns : goal.returns
-returns c = replies-among

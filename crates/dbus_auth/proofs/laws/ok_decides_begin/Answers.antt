@@ -1,5 +1,0 @@
-use Rattle.dbus_auth.proofs.HandshakeLemmas.{begin-opens, begin-refused}
-use Rattle.dbus_auth.proofs.laws.ok_decides_begin.Goals as goal
-
-pub returns : goal.returns
-returns c = record { opens = begin-opens; refused = begin-refused }

@@ -1,5 +1,0 @@
-use Rattle.dbus_auth.proofs.HandshakeLemmas.{run-opened}
-use Rattle.dbus_auth.proofs.laws.only_begin_opens.Goals as goal
-
-pub returns : goal.returns
-returns c = run-opened

@@ -1,5 +1,0 @@
-use Rattle.dbus_auth.proofs.HandshakeLemmas.{run-waits}
-use Rattle.dbus_auth.proofs.laws.waits_for_the_end_of_a_line.Goals as goal
-
-pub returns : goal.returns
-returns c = run-waits

@@ -1,6 +1,0 @@
-use Rattle.std.proofs.Common.{refl}
-use Rattle.dbus_auth_client.proofs.ServerLemmas.{offered, accepted, begun}
-use Rattle.dbus_auth_client.proofs.laws.our_server_accepts.Goals as goal
-
-pub returns : goal.returns
-returns c = record { offered = offered; accepted = accepted; begun = begun; sent = λ uid. refl }

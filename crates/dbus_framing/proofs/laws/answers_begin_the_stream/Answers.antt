@@ -1,5 +1,0 @@
-use Rattle.dbus_framing.proofs.Cuts.{answers_begin}
-use Rattle.dbus_framing.proofs.laws.answers_begin_the_stream.Goals as goal
-
-pub returns : goal.returns
-returns c = answers_begin

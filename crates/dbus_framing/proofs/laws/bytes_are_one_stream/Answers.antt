@@ -1,5 +1,0 @@
-use Rattle.dbus_framing.proofs.Cuts.{one_stream}
-use Rattle.dbus_framing.proofs.laws.bytes_are_one_stream.Goals as goal
-
-pub returns : goal.returns
-returns c = one_stream

@@ -1,5 +1,0 @@
-use Rattle.dbus_framing.proofs.Ends.{never_ends}
-use Rattle.dbus_framing.proofs.laws.no_bytes_end_inside.Goals as goal
-
-pub returns : goal.returns
-returns c = never_ends

@@ -1,5 +1,0 @@
-use Rattle.keyring_file.proofs.FileLaws.{file_found}
-use Rattle.keyring_file.proofs.laws.a_file_that_is_read_is_spelled_so.Goals as goal
-
-pub returns : goal.returns
-returns c = file_found

@@ -1,5 +1,0 @@
-use Rattle.keyring_file.proofs.AreaLaws.{area_again}
-use Rattle.keyring_file.proofs.laws.an_area_that_is_spelled_so_is_read.Goals as goal
-
-pub returns : goal.returns
-returns c = area_again

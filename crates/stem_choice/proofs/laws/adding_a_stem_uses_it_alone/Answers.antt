@@ -1,5 +1,0 @@
-use Rattle.stem_choice.proofs.UsedLemmas.{is_used-with_stem}
-use Rattle.stem_choice.proofs.laws.adding_a_stem_uses_it_alone.Goals as goal
-
-pub returns : goal.returns
-returns c = λ stem other used. is_used-with_stem stem other used
