@@ -1,4 +1,4 @@
-pub mod LinkLemmas
+pub mod TookLemmas
 pub mod LineLemmas
 pub mod SecretLemmas
 pub mod GreetingLemmas

@@ -13,7 +13,7 @@ use Rattle.dbus_auth_client.proofs.HearingLemmas.{talk-append}
 use Rattle.dbus_framing.specs.Framers.{Framing}
 use Rattle.dbus_framing.proofs.Cuts.{cut_none}
 use Rattle.client_core.specs.declared.reply.Reply.{Reply}
-use Rattle.kr_dialer.specs.Carrying.{LinkState, Carried, IsStill}
+use Rattle.kr_dialer.specs.Carrying.{LinkState, Carried, IsStill, IsFront}
 use Rattle.kr_dialer.proofs.CarryingLemmas.{Carried-none, Carried-trans}
 use Rattle.tool_script.specs.declared.command.Command.{Command}
 use Rattle.tool_script.specs.declared.steps.ScriptEnd.{ScriptEnd}
@@ -27,14 +27,16 @@ use Rattle.client_tool.specs.declared.status.Stop.TheVariants as stop
 use Rattle.client_tool.specs.declared.status.ToolStatus.{ToolStatus}
 use Rattle.client_tool.specs.declared.status.ToolStatus.TheVariants as status
 use Rattle.client_tool.specs.Status.{status_of, stopped_with}
-use Rattle.client_tool.specs.Streams.{Input, Output, Took, Gave, IsFront}
+use Rattle.client_tool.specs.Streams.{Input, Output, Took, Gave}
 use Rattle.client_tool.specs.Lines.{IsLine, IsNoLine}
 use Rattle.client_tool.specs.Secrets.{SecretStops}
-use Rattle.client_tool.specs.Greeting.{greeting, Greets}
+use Rattle.dbus_opening.specs.Opening.{greeting}
+use Rattle.client_tool.specs.Greeting.{Greets}
 use Rattle.client_tool.specs.Talking.{most_bytes, sent, FirstReplies, Talks, TalkStops}
 use Rattle.client_tool.specs.Running.{AreHeard, all_sent, ConverseStops, ConverseEnds, Converses, Prints, Linked, Traffic, Finished, Stopped, RunEnds, RunsScript, Gets, QuitsFor, ToolRuns}
 use Rattle.client_tool.proofs.LineLemmas.{command-is}
-use Rattle.client_tool.proofs.LinkLemmas.{rose-after, front-all, front-more, front-behind, front-trans, Took-none}
+use Rattle.kr_dialer.proofs.CarriedLemmas.{rose-after, front-all, front-more, front-behind, front-trans}
+use Rattle.client_tool.proofs.TookLemmas.{Took-none}
 
 -- ---- the connection
 

@@ -4,7 +4,8 @@ use Rattle.client_tool.specs.declared.status.Stop.{Stop}
 use Rattle.client_tool.specs.declared.status.Stop.TheVariants as stop
 use Rattle.client_tool.specs.Streams.{Input, Took}
 use Rattle.client_tool.specs.Secrets.{most_secret, ReadsSome, ReadsSecret}
-use Rattle.client_tool.proofs.LinkLemmas.{Took-none, Took-trans, Took-more, rose-after}
+use Rattle.kr_dialer.proofs.CarriedLemmas.{rose-after}
+use Rattle.client_tool.proofs.TookLemmas.{Took-none, Took-trans, Took-more}
 
 -- nothing was read yet
 pub secret-begins : (from : Input) (secret : List ℕ) → secret ≡ [] → Took from from secret × (length secret ≤ most_secret) × (from.faults ≡ from.faults)

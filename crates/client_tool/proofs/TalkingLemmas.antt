@@ -15,7 +15,7 @@ use Rattle.client_core.specs.declared.reply.ReplyFault.TheVariants as fault
 use Rattle.client_core.specs.Asked.{spelled}
 use Rattle.client_core.specs.Asked as asked
 use Rattle.client_core.specs.Replies.{shape_of, reply_in}
-use Rattle.kr_dialer.specs.Carrying.{LinkState, Carried, IsStill}
+use Rattle.kr_dialer.specs.Carrying.{LinkState, Carried, IsStill, IsFront}
 use Rattle.kr_dialer.proofs.CarryingLemmas.{Carried-none}
 use Rattle.tool_script.specs.declared.command.Command.{Command}
 use Rattle.tool_script.specs.declared.command.Command.TheVariants as command
@@ -27,10 +27,9 @@ use Rattle.tool_script.proofs.ScriptLemmas.{sent-is, grows-sent, grows-ended}
 use Rattle.client_tool.specs.declared.status.BadReply.TheVariants as bad
 use Rattle.client_tool.specs.declared.status.Stop.{Stop}
 use Rattle.client_tool.specs.declared.status.Stop.TheVariants as stop
-use Rattle.client_tool.specs.Streams.{IsFront}
 use Rattle.client_tool.specs.Receiving.{ReceivesMore}
 use Rattle.client_tool.specs.Talking.{most_bytes, spelled_from, sent, read_as, with_read, after_message, and_then, after_messages, FirstReplies, AllReplies, NoReply, SendsStep, SendsNext, ReadsReply, Talks, Talking, HasReply, TakesReply, GoesOn, TakesTurn}
-use Rattle.client_tool.proofs.LinkLemmas.{carried-read, carried-wrote, carried-still, rose-after, front-all, front-behind}
+use Rattle.kr_dialer.proofs.CarriedLemmas.{carried-read, carried-wrote, carried-still, rose-after, front-all, front-behind}
 
 -- ---- messages and replies
 

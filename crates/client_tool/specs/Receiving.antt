@@ -2,22 +2,13 @@
 use Rattle.std.specs.Prelude.{◌≡◌, ℕ, ◌++◌, List, [], Result, Ok, Err}
 use Rattle.std.specs.Io.KnownBytes.{IsAtEnd}
 use Rattle.kr_outside.specs.Faults.{Rose}
-use Rattle.dbus_auth_client.specs.declared.client.ClientFault.TheVariants as fault
 use Rattle.dbus_framing.specs.Framers.{Framing}
 use Rattle.kr_dialer.specs.Carrying.{LinkState, Carried, IsStill}
 use Rattle.client_tool.specs.declared.status.BadReply.TheVariants as bad
 use Rattle.client_tool.specs.declared.status.Stop.{Stop}
 use Rattle.client_tool.specs.declared.status.Stop.TheVariants as stop
 
--- bytes were read and appended to those that are held; or the dialer failed, or ended, or no memory was left
-abbrev pub ReceivesLine : List ℕ → List ℕ → LinkState → LinkState → Result Unit Stop → Type 0
-ReceivesLine has left old new (Ok done) = (more : List ℕ) × Carried old new more [] × (left ≡ has ++ more) × IsStill old new
-ReceivesLine has left old new (Err stop.LinkFault) = Carried old new [] [] × Rose old.faults new.faults
-ReceivesLine has left old new (Err (stop.BadReply (bad.Handshake fault.EndedEarly))) = Carried old new [] [] × IsAtEnd new.left × IsStill old new
-ReceivesLine has left old new (Err stop.Memory) = (more : List ℕ) × Carried old new more [] × IsStill old new
-ReceivesLine has left old new (Err _) = ⊥
-
--- the same for bytes that are fed to a framer
+-- bytes were read and fed to a framer; or the dialer failed, or ended, or no memory was left
 abbrev pub ReceivesMore : Framing → Framing → LinkState → LinkState → Result Unit Stop → Type 0
 ReceivesMore has left old new (Ok done) = (more : List ℕ) × Carried old new more [] × (left.rest ≡ has.rest ++ more) × (left.most ≡ has.most) × IsStill old new
 ReceivesMore has left old new (Err stop.LinkFault) = Carried old new [] [] × Rose old.faults new.faults

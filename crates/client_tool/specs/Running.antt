@@ -4,7 +4,7 @@ use Rattle.std.specs.Io.KnownBytes.{Appends, Consumes}
 use Rattle.kr_outside.specs.Faults.{Rose, KeepsSteady}
 use Rattle.dbus_auth_client.specs.Hearing as hearing
 use Rattle.client_core.specs.declared.reply.Reply.{Reply}
-use Rattle.kr_dialer.specs.Carrying.{LinkState, Carried, IsStill}
+use Rattle.kr_dialer.specs.Carrying.{LinkState, Carried, IsStill, IsFront}
 use Rattle.tool_script.specs.declared.command.Command.{Command}
 use Rattle.tool_script.specs.declared.steps.ScriptEnd.{ScriptEnd}
 use Rattle.tool_script.specs.declared.steps.ScriptStatus.{ScriptStatus}
@@ -17,10 +17,10 @@ use Rattle.client_tool.specs.declared.status.Stop.TheVariants as stop
 use Rattle.client_tool.specs.declared.status.ToolStatus.{ToolStatus}
 use Rattle.client_tool.specs.declared.status.ToolStatus.TheVariants as status
 use Rattle.client_tool.specs.Status.{status_of}
-use Rattle.client_tool.specs.Streams.{Input, Output, Took, Gave, IsFront}
+use Rattle.client_tool.specs.Streams.{Input, Output, Took, Gave}
 use Rattle.client_tool.specs.Lines.{IsLine, IsNoLine, stores}
 use Rattle.client_tool.specs.Secrets.{ReadsSecret, most_secret}
-use Rattle.client_tool.specs.Greeting.{greeting, FailsFor}
+use Rattle.dbus_opening.specs.Opening.{greeting, FailsFor}
 use Rattle.client_tool.specs.Talking.{sent, FirstReplies, TalkStops}
 
 -- ---- the connection

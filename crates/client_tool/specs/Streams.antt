@@ -40,7 +40,3 @@ pub record Gave (old new : Output) (bytes : List ℕ) : Type 0 where
   pub appended : Appends old.written new.written bytes
   pub later : old.faults ≤ new.faults
   pub steady : KeepsSteady old.is_steady new.is_steady old.faults new.faults
-
--- the one list begins the other
-abbrev pub IsFront : List ℕ → List ℕ → Type 0
-IsFront front whole = (rest : List ℕ) × (whole ≡ front ++ rest)

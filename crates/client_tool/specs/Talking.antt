@@ -11,7 +11,7 @@ use Rattle.client_core.specs.declared.reply.ReplyFault.{ReplyFault}
 use Rattle.client_core.specs.declared.reply.ReplyFault.TheVariants as fault
 use Rattle.client_core.specs.Asked as asked
 use Rattle.client_core.specs.Replies.{shape_of, reply_in}
-use Rattle.kr_dialer.specs.Carrying.{LinkState, Carried, IsStill}
+use Rattle.kr_dialer.specs.Carrying.{LinkState, Carried, IsStill, IsFront}
 use Rattle.tool_script.specs.declared.command.Command.{Command}
 use Rattle.tool_script.specs.declared.steps.ScriptEnd.{ScriptEnd}
 use Rattle.tool_script.specs.declared.steps.ToolStep.{ToolStep}
@@ -20,7 +20,6 @@ use Rattle.tool_script.specs.Script.{Course, script, print, step_after}
 use Rattle.client_tool.specs.declared.status.BadReply.TheVariants as bad
 use Rattle.client_tool.specs.declared.status.Stop.{Stop}
 use Rattle.client_tool.specs.declared.status.Stop.TheVariants as stop
-use Rattle.client_tool.specs.Streams.{IsFront}
 
 -- the most bytes of a message that is read (D-Bus Specification, "Message Format")
 abbrev pub most_bytes : ℕ

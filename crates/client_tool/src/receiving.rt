@@ -3,38 +3,15 @@ ghost use Rattle.std.specs.Prelude.{◌≡◌, length, IsTrue};
 ghost use Rattle.std.specs.Option.{is_some};
 ghost use Rattle.kr_dialer.specs.Carrying.{link_of};
 ghost use Rattle.client_tool.specs.Streams.{most_read};
-ghost use Rattle.client_tool.specs.Receiving.{ReceivesLine, ReceivesMore};
+ghost use Rattle.client_tool.specs.Receiving.{ReceivesMore};
 
 use crate::status::{BadReply, Stop};
-use dbus_auth_client::ClientFault;
 use dbus_framing::Framer;
 use kr_dialer::Dialer;
 use kr_outside::Failed;
 
 /// The most bytes that are read at a time.
 pub const MOST_READ: usize = 65_536;
-
-/// Reads a piece, and appends it to the bytes that are held.
-pub fn hold_more<D: Dialer>(
-    dialer: &mut D,
-    piece: &mut [u8],
-    held: &mut Vec<u8>,
-) -> Result<(), Stop>
-    requires room { length piece.old ≡ most_read }
-    requires has_dialled { IsTrue (is_some (D.dialled dialer.old)) }
-    ensures { ReceivesLine held.old.items held.new.items
-        (link_of D.dialled D.left D.written D.faults D.is_steady dialer.old)
-        (link_of D.dialled D.left D.written D.faults D.is_steady dialer.new) result }
-{
-    match dialer.read(&mut *piece) {
-        Err(Failed) => Err(Stop::LinkFault),
-        Ok(0) => Err(Stop::BadReply(BadReply::Handshake(ClientFault::EndedEarly))),
-        Ok(count) => match held.extend_from_slice(&piece[..count]) {
-            Ok(()) => Ok(()),
-            Err(_) => Err(Stop::Memory),
-        },
-    }
-}
 
 /// Reads a piece, and feeds it to the framer.
 pub fn feed_more<D: Dialer>(

@@ -36,7 +36,7 @@ fn converse_by<R: AllocGlobal + Wait, D: Dialer>(
         (link_of D.dialled D.left D.written D.faults D.is_steady dialer.old)
         (link_of D.dialled D.left D.written D.faults D.is_steady dialer.new) result }
 {
-    match greet(rt, uid, dialer, &mut *piece) {
+    match greet(rt, uid, dialer) {
         Ok(framer) => {
             let mut framer = framer;
             talk(rt, script, &mut framer, dialer, piece)

@@ -1,5 +1,5 @@
 use Rattle.kr_dialer.specs.Carrying.{link_of}
-use Rattle.client_tool.proofs.LinkLemmas.{still-dialled}
+use Rattle.kr_dialer.proofs.CarriedLemmas.{still-dialled}
 use Rattle.client_tool.proofs.RunningLemmas.{converse-on, converse-fails}
 use Rattle.client_tool.proofs.running.converse_by.Goals as goal
 

@@ -1,7 +1,7 @@
 use Rattle.std.proofs.Common.{None, Ok}
 use Rattle.kr_dialer.specs.Carrying.{link_of}
 use Rattle.tool_script.specs.Script.{heard}
-use Rattle.client_tool.proofs.LinkLemmas.{still-dialled}
+use Rattle.kr_dialer.proofs.CarriedLemmas.{still-dialled}
 use Rattle.client_tool.proofs.TalkingLemmas.{sends-dialled, talk-goes, talk-unbegun, talk-never}
 use Rattle.client_tool.proofs.talking.talk.Goals as goal
 

@@ -1,6 +1,6 @@
 use Rattle.std.proofs.Common.{refl, ◌∙◌, None, Some, Ok, Err}
 use Rattle.kr_dialer.specs.Carrying.{link_of}
-use Rattle.client_tool.proofs.LinkLemmas.{still-dialled}
+use Rattle.kr_dialer.proofs.CarriedLemmas.{still-dialled}
 use Rattle.client_tool.proofs.TalkingLemmas.{loop-turn, turned}
 use Rattle.client_tool.proofs.talking.talk_on.Goals as goal
 

@@ -1,6 +1,6 @@
 use Rattle.kr_dialer.specs.Carrying.{link_of}
-use Rattle.bus_opening.specs.Opening.{Goes}
-use Rattle.bus_opening.proofs.opening.open_by.Given as goal
+use Rattle.dbus_opening.specs.Opening.{Goes}
+use Rattle.dbus_opening.proofs.opening.open_by.Given as goal
 
 -- the lines so far are said, and the talk goes on with the bytes that are held
 abbrev pub invariant-loop : goal.invariant-loop

@@ -1,6 +1,6 @@
 use Rattle.kr_dialer.specs.Carrying.{link_of}
-use Rattle.bus_opening.proofs.OpeningLemmas.{holds-end}
-use Rattle.bus_opening.proofs.opening.hold_more.Goals as goal
+use Rattle.dbus_opening.proofs.OpeningLemmas.{holds-end}
+use Rattle.dbus_opening.proofs.opening.hold_more.Goals as goal
 
 -- nothing is left
 pub returns-then-count-eq0 : goal.returns-then-count-eq0

@@ -1,4 +1,4 @@
-use Rattle.bus_opening.proofs.opening.say.Goals as goal
+use Rattle.dbus_opening.proofs.opening.say.Goals as goal
 
 -- the link failed after a prefix
 pub returns-in-Err : goal.returns-in-Err

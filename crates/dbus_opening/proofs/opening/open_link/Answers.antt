@@ -1,7 +1,7 @@
 use Rattle.kr_dialer.specs.Carrying.{link_of}
 use Rattle.kr_dialer.proofs.CarryingLemmas.{Carried-none}
-use Rattle.bus_opening.proofs.OpeningLemmas.{unbegun}
-use Rattle.bus_opening.proofs.opening.open_link.Goals as goal
+use Rattle.dbus_opening.proofs.OpeningLemmas.{unbegun}
+use Rattle.dbus_opening.proofs.opening.open_link.Goals as goal
 
 -- there was no memory to begin
 pub returns-in_default : goal.returns-in_default

@@ -11,9 +11,9 @@ use Rattle.dbus_auth_client.specs.Openings.{opening, begin_line}
 use Rattle.dbus_auth_client.proofs.HearingLemmas.{talk-append}
 use Rattle.kr_dialer.specs.Carrying.{LinkState, Carried, IsFront, ReadsPiece}
 use Rattle.kr_outside.specs.declared.source.Failed.{Failed}
-use Rattle.bus_opening.specs.declared.refused.OpenRefused.{OpenRefused}
-use Rattle.bus_opening.specs.declared.refused.OpenRefused.TheVariants as end
-use Rattle.bus_opening.specs.Opening.{Awaits, Goes, HoldsMore, Opens, Says, Turned, greeting}
+use Rattle.dbus_opening.specs.declared.refused.OpenRefused.{OpenRefused}
+use Rattle.dbus_opening.specs.declared.refused.OpenRefused.TheVariants as end
+use Rattle.dbus_opening.specs.Opening.{Awaits, Goes, HoldsMore, Opens, Says, Turned, greeting}
 use Rattle.kr_dialer.proofs.CarriedLemmas.{carried-read, carried-still, carried-wrote, front-behind, front-more, front-trans, rose-after, still-dialled}
 
 -- ---- the opening

@@ -4,7 +4,7 @@ use dbus_auth_client::ClientFault;
 /// Why a link isn't opened.
 #[derive(Clone, Copy, Debug, PartialEq, Eq)]
 pub enum OpenRefused {
-    /// The bus refused the handshake, or the input ended in it (`EndedEarly`).
+    /// The server refused the handshake, or the input ended in it (`EndedEarly`).
     Handshake(ClientFault),
     /// The link failed at a read.
     ReadFault,

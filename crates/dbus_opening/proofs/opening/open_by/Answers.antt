@@ -1,8 +1,8 @@
 use Rattle.std.proofs.Common.{ℕ, List, Ok, Err, subst, ◌∙◌}
 use Rattle.kr_dialer.specs.Carrying.{link_of}
-use Rattle.bus_opening.specs.Opening.{Says}
-use Rattle.bus_opening.proofs.OpeningLemmas.{goes-dialled, goes-none, turned-begun, turned-on, unopened}
-use Rattle.bus_opening.proofs.opening.open_by.Goals as goal
+use Rattle.dbus_opening.specs.Opening.{Says}
+use Rattle.dbus_opening.proofs.OpeningLemmas.{goes-dialled, goes-none, turned-begun, turned-on, unopened}
+use Rattle.dbus_opening.proofs.opening.open_by.Goals as goal
 
 -- the opening wasn't written
 pub returns-in-Err : goal.returns-in-Err

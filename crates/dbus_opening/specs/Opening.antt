@@ -8,14 +8,14 @@ use Rattle.dbus_auth_client.specs.declared.client.ClientFault.TheVariants as fau
 use Rattle.dbus_auth_client.specs.Hearing as hearing
 use Rattle.dbus_auth_client.specs.Openings.{opening}
 use Rattle.kr_dialer.specs.Carrying.{LinkState, Carried, IsFront, IsStill}
-use Rattle.bus_opening.specs.declared.refused.OpenRefused.{OpenRefused}
-use Rattle.bus_opening.specs.declared.refused.OpenRefused.TheVariants as refused
+use Rattle.dbus_opening.specs.declared.refused.OpenRefused.{OpenRefused}
+use Rattle.dbus_opening.specs.declared.refused.OpenRefused.TheVariants as refused
 
 -- the most bytes that are read at a time
 abbrev pub most_read : ℕ
 most_read = 65536
 
--- all that the client says in a handshake in which the bus says these bytes
+-- all that the client says in a handshake in which the server says these bytes
 abbrev pub greeting : ℕ → List ℕ → List ℕ
 greeting uid read = opening uid ++ concat (hearing.talk false read).said
 
@@ -25,11 +25,11 @@ Awaits (hearing.waiting asked unfinished) = Unit {0}
 Awaits (hearing.refused fault) = ⊥
 Awaits (hearing.opened guid rest) = ⊥
 
--- why a handshake failed: a line of the bus shows it, or the input has ended while a line was awaited
+-- why a handshake failed: a line of the server shows it, or the input has ended while a line was awaited
 abbrev pub FailsFor : hearing.End → LinkState → ClientFault → Type 0
 FailsFor how link why = (how ≡ hearing.refused why) ⊎ ((why ≡ fault.EndedEarly) × Awaits how × IsAtEnd link.left)
 
--- The bus has accepted the user, and this is the rest of what was read; or the handshake has failed, or the link has, or no memory was left.
+-- The server has accepted the user, and this is the rest of what was read; or the handshake has failed, or the link has, or no memory was left.
 abbrev pub OpeningEnds : ℕ → List ℕ → List ℕ → LinkState → LinkState → Result (List ℕ) OpenRefused → Type 0
 OpeningEnds uid read wrote old new (Ok rest) = ((guid : List ℕ) × ((hearing.talk false read).end ≡ hearing.opened guid rest)) × (wrote ≡ greeting uid read) × IsStill old new
 OpeningEnds uid read wrote old new (Err (refused.Handshake why)) = FailsFor (hearing.talk false read).end new why × (wrote ≡ greeting uid read) × IsStill old new

@@ -4,7 +4,7 @@ ghost use Rattle.std.specs.Option.{is_some};
 ghost use Rattle.dbus_auth.specs.Answers.{data_line};
 ghost use Rattle.dbus_auth_client.specs.Openings.{begin_line};
 ghost use Rattle.kr_dialer.specs.Carrying.{LinkState, link_of};
-ghost use Rattle.bus_opening.specs.Opening.{Goes, HoldsMore, Opens, Says, TurnsOn, most_read};
+ghost use Rattle.dbus_opening.specs.Opening.{Goes, HoldsMore, Opens, Says, TurnsOn, most_read};
 
 use crate::refused::OpenRefused;
 use dbus_auth_client::{BEGIN_LINE, Client, ClientFault, DATA_LINE, Turn, opening};
@@ -150,10 +150,10 @@ fn open_by<R: AllocGlobal + Wait, D: Dialer>(
     unreachable!()
 }
 
-/// The client's half of the handshake for this user: writes the opening, and answers each line of the bus, reading at
-/// most 65,536 bytes at a time. Returns what was read after the line by which the bus accepted the user.
+/// The client's half of the handshake for this user: writes the opening, and answers each line of the server, reading at
+/// most 65,536 bytes at a time. Returns what was read after the line by which the server accepted the user.
 ///
-/// Refused with `Handshake` if a line of the bus refuses the user or is no answer, or if the input ended before the user was
+/// Refused with `Handshake` if a line of the server refuses the user or is no answer, or if the input ended before the user was
 /// accepted (`EndedEarly`); with `ReadFault` and `WriteFault` only if the link's count of faults rose; and with
 /// `OutOfMemory`.
 pub fn open_link<R: AllocGlobal + Wait, D: Dialer>(

@@ -2,9 +2,9 @@ use Rattle.std.proofs.Common.{ℕ, List, drop, Ok, Err, subst}
 use Rattle.dbus_auth.specs.Answers.{data_line}
 use Rattle.dbus_auth_client.specs.Hearing.{talk}
 use Rattle.kr_dialer.specs.Carrying.{link_of}
-use Rattle.bus_opening.specs.Opening.{Says}
-use Rattle.bus_opening.proofs.OpeningLemmas.{begins, goes-data, goes-less, goes-more, refuses, unbegun-said, unsaid}
-use Rattle.bus_opening.proofs.opening.turn.Goals as goal
+use Rattle.dbus_opening.specs.Opening.{Says}
+use Rattle.dbus_opening.proofs.OpeningLemmas.{begins, goes-data, goes-less, goes-more, refuses, unbegun-said, unsaid}
+use Rattle.dbus_opening.proofs.opening.turn.Goals as goal
 
 -- no more was read
 pub returns-in-Err : goal.returns-in-Err
