@@ -1,0 +1,4 @@
+pub mod AnswerLemmas
+pub mod MatchLemmas
+pub mod LookupLemmas
+pub mod ReadyLemmas

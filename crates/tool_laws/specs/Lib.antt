@@ -1,0 +1,4 @@
+pub mod Conversations
+pub mod Lookup
+pub mod Matches
+pub mod Ready
