@@ -5,6 +5,7 @@ use Rattle.std.proofs.lemmas.Option.{same_Some}
 use Rattle.kr_base.specs.declared.ids.ConnId.{ConnId}
 use Rattle.client_core.specs.declared.reply.Reply.{Reply}
 use Rattle.client_core.specs.declared.reply.Reply.TheVariants as reply
+use Rattle.service_events.specs.collection_store.specs.declared.change.Changed.{Changed}
 use Rattle.service_events.specs.collection_table.specs.Rows.{Rows}
 use Rattle.service_events.specs.secret_calls.specs.declared.call.Call.{Call}
 use Rattle.service_events.specs.secret_calls.specs.declared.call.CallFault.{CallFault}
@@ -16,17 +17,21 @@ use Rattle.service_events.specs.secret_calls.specs.declared.serial.Serial.{Seria
 use Rattle.service_events.specs.secret_calls.specs.Outs.{error_text}
 use Rattle.service_events.specs.service_tables.specs.Sent.{One, Sent}
 use Rattle.service_events.specs.service_tables.specs.State.{State}
-use Rattle.service_events.specs.service_tables.specs.Storing.{Brought}
+use Rattle.service_events.specs.service_tables.specs.Storing.{Brought, Edit}
 use Rattle.service_events.specs.service_tables.specs.declared.fate.Fate.{Fate}
+use Rattle.service_events.specs.service_tables.specs.declared.fate.StoreFate.{StoreFate}
+use Rattle.service_events.specs.service_tables.specs.declared.fate.StoreFate.TheVariants as stored
 use Rattle.service_events.specs.declared.event.Event.{Event}
 use Rattle.service_events.specs.declared.event.Event.TheVariants as event
 use Rattle.service_events.specs.declared.event.Recorded.{Recorded}
-use Rattle.service_events.specs.Plan.{Returns, Gives, Refuses, Change, Gift, Plan, answered, given, refused}
+use Rattle.service_events.specs.CollectionCalls.{by_fate, storing}
+use Rattle.service_events.specs.Plan.{Returns, Gives, Refuses, Change, Gift, Plan, Store, answered, given, refused}
 use Rattle.service_events.specs.PublicBody.{PublicBody, body_with}
 use Rattle.service_events.specs.Replay.{replay}
-use Rattle.service_events.specs.Run.{Ran, performed_all, ran, run, with_gift}
+use Rattle.service_events.specs.Run.{Ran, demanded, failing, performed_all, promised, ran, rows_asked, run, sending, sent_asked, with_gift}
 use Rattle.service_events.specs.Step.{brought_with, message_of, plan_of, served, step}
 use Rattle.service_events.proofs.EndLemmas.{ends-either}
+use Rattle.service_events.proofs.RunLemmas.{fits-either, store-either}
 use Rattle.tool_laws.specs.Conversations.{Answered, IsQuiet, read_in}
 
 -- ---- the ends of a plan
@@ -72,6 +77,31 @@ module _ (Is : Body → Rows → Type 0) (caller : ConnId) (brought : Brought) (
   pub leads-if : (b : Bool) (one other : Plan) → (b ≡ true → PlanLeads one) → PlanLeads other → PlanLeads (cond b one other)
   leads-if true one other first second = first refl
   leads-if false one other first second = second
+
+  -- how an edit ended that was to be stored
+  ended-by : (stem : List ℕ) (edit : Edit) (shown : PublicBody) → Is (body_with shown) (rows_asked brought (Store stem edit) stored.Stored state.collections)
+      → (ended : StoreFate) (rest : List Fate)
+      → Leads Is (sending (sent_asked brought (Store stem edit) ended state) (run caller brought (by_fate shown ended) rest (demanded brought (Store stem edit) ended state)))
+  ended-by stem edit shown its stored.Stored rest =
+      let next = demanded brought (Store stem edit) stored.Stored state in
+      ends-either (λ ran. Leads Is (sending (sent_asked brought (Store stem edit) stored.Stored state) ran)) caller brought (Returns shown) [] rest next
+      (λ body is. subst (λ (b : Body). Is b next.collections) (ok-same (body_with shown) body is) its) (λ body is. absurd (err-ok name.LimitsExceeded body is))
+  ended-by stem edit shown its stored.Before rest =
+      ends-either (λ ran. Leads Is (sending (sent_asked brought (Store stem edit) stored.Before state) ran)) caller brought (Refuses name.IOError) [] rest (demanded brought (Store stem edit) stored.Before state)
+      (λ body is. absurd (err-ok name.IOError body is)) (λ body is. absurd (err-ok name.LimitsExceeded body is))
+  ended-by stem edit shown its stored.Unsure rest =
+      ends-either (λ ran. Leads Is (sending (sent_asked brought (Store stem edit) stored.Unsure state) ran)) caller brought (Refuses name.IOError) [] rest (demanded brought (Store stem edit) stored.Unsure state)
+      (λ body is. absurd (err-ok name.IOError body is)) (λ body is. absurd (err-ok name.LimitsExceeded body is))
+
+  -- an edit that is stored, if it can be
+  pub leads-stored : (stem : List ℕ) (edit : Edit) (returned : Changed → PublicBody) (answer : Option Changed)
+      → ((it : Changed) → answer ≡ Some it → Is (body_with (returned it)) (rows_asked brought (Store stem edit) stored.Stored state.collections))
+      → PlanLeads (storing stem edit returned answer)
+  leads-stored stem edit returned None its = leads-refused name.LimitsExceeded
+  leads-stored stem edit returned (Some it) its =
+      let fails : (fault : ErrorName) → Leads Is (failing fault state) = λ fault body is. absurd (err-ok fault body is) in
+      fits-either (Leads Is) (promised caller state (by_fate (returned it) stored.Stored)) _ (failing name.LimitsExceeded state)
+      (λ small. store-either (Leads Is) (failing name.IOError state) _ fates (fails name.IOError) (ended-by stem edit (returned it) (its it refl))) (fails name.LimitsExceeded)
 
 -- ---- a reply
 

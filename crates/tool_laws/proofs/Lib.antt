@@ -1,4 +1,6 @@
 pub mod AnswerLemmas
-pub mod MatchLemmas
+pub mod ClearLemmas
 pub mod LookupLemmas
+pub mod MatchLemmas
 pub mod ReadyLemmas
+pub mod RowLemmas

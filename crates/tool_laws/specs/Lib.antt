@@ -1,3 +1,4 @@
+pub mod Clear
 pub mod Conversations
 pub mod Lookup
 pub mod Matches
