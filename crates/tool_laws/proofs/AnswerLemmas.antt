@@ -6,7 +6,6 @@ use Rattle.kr_base.specs.declared.ids.ConnId.{ConnId}
 use Rattle.client_core.specs.declared.reply.Reply.{Reply}
 use Rattle.client_core.specs.declared.reply.Reply.TheVariants as reply
 use Rattle.service_events.specs.collection_store.specs.declared.change.Changed.{Changed}
-use Rattle.service_events.specs.collection_table.specs.Rows.{Rows}
 use Rattle.service_events.specs.secret_calls.specs.declared.call.Call.{Call}
 use Rattle.service_events.specs.secret_calls.specs.declared.call.CallFault.{CallFault}
 use Rattle.service_events.specs.secret_calls.specs.declared.out.Body.{Body}
@@ -15,6 +14,7 @@ use Rattle.service_events.specs.secret_calls.specs.declared.out.ErrorName.TheVar
 use Rattle.service_events.specs.secret_calls.specs.declared.out.Out.{Out}
 use Rattle.service_events.specs.secret_calls.specs.declared.serial.Serial.{Serial}
 use Rattle.service_events.specs.secret_calls.specs.Outs.{error_text}
+use Rattle.service_events.specs.service_tables.specs.Opened.{Contents, contents_of}
 use Rattle.service_events.specs.service_tables.specs.Sent.{One, Sent}
 use Rattle.service_events.specs.service_tables.specs.State.{State}
 use Rattle.service_events.specs.service_tables.specs.Storing.{Brought, Edit}
@@ -28,7 +28,7 @@ use Rattle.service_events.specs.CollectionCalls.{by_fate, storing}
 use Rattle.service_events.specs.Plan.{Returns, Gives, Refuses, Change, Gift, Plan, Store, answered, given, refused}
 use Rattle.service_events.specs.PublicBody.{PublicBody, body_with}
 use Rattle.service_events.specs.Replay.{replay}
-use Rattle.service_events.specs.Run.{Ran, demanded, failing, performed_all, promised, ran, rows_asked, run, sending, sent_asked, with_gift}
+use Rattle.service_events.specs.Run.{Ran, demanded, failing, performed_all, promised, ran, run, sending, sent_asked, with_gift}
 use Rattle.service_events.specs.Step.{brought_with, message_of, plan_of, served, step}
 use Rattle.service_events.proofs.EndLemmas.{ends-either}
 use Rattle.service_events.proofs.RunLemmas.{fits-either, store-either}
@@ -52,11 +52,11 @@ fine body = Ok body
 pub ok-same : (one other : Body) → fine one ≡ fine other → one ≡ other
 ok-same one other e = ap (body-or one) e
 
--- if the run answers with values, this is true of them and of the collections after it
-abbrev pub Leads : (Body → Rows → Type 0) → Ran → Type 0
-Leads Is ran = (body : Body) → ran.answer ≡ Ok body → Is body ran.state.collections
+-- if the run answers with values, this is true of them and of the collections and the aliases after it
+abbrev pub Leads : (Body → Contents → Type 0) → Ran → Type 0
+Leads Is ran = (body : Body) → ran.answer ≡ Ok body → Is body (contents_of ran.state)
 
-module _ (Is : Body → Rows → Type 0) (caller : ConnId) (brought : Brought) (fates : List Fate) (state : State) where
+module _ (Is : Body → Contents → Type 0) (caller : ConnId) (brought : Brought) (fates : List Fate) (state : State) where
   -- the same of what a plan leads to
   abbrev pub PlanLeads : Plan → Type 0
   PlanLeads plan = Leads Is (run caller brought plan fates state)
@@ -65,13 +65,13 @@ module _ (Is : Body → Rows → Type 0) (caller : ConnId) (brought : Brought) (
   leads-refused fault =
       ends-either (Leads Is) caller brought (Refuses fault) [] fates state (λ body is. absurd (err-ok fault body is)) (λ body is. absurd (err-ok name.LimitsExceeded body is))
 
-  pub leads-answered : (shown : PublicBody) (changes : List Change) → Is (body_with shown) (performed_all caller changes state).collections → PlanLeads (answered shown changes)
+  pub leads-answered : (shown : PublicBody) (changes : List Change) → Is (body_with shown) (contents_of (performed_all caller changes state)) → PlanLeads (answered shown changes)
   leads-answered shown changes its =
       ends-either (Leads Is) caller brought (Returns shown) changes fates state
-      (λ body is. subst (λ (b : Body). Is b (performed_all caller changes state).collections) (ok-same (body_with shown) body is) its)
+      (λ body is. subst (λ (b : Body). Is b (contents_of (performed_all caller changes state))) (ok-same (body_with shown) body is) its)
       (λ body is. absurd (err-ok name.LimitsExceeded body is))
 
-  pub leads-given : (gift : Gift) → ((body : Body) → with_gift caller state gift ≡ Ok body → Is body state.collections) → PlanLeads (given gift)
+  pub leads-given : (gift : Gift) → ((body : Body) → with_gift caller state gift ≡ Ok body → Is body (contents_of state)) → PlanLeads (given gift)
   leads-given gift its = ends-either (Leads Is) caller brought (Gives gift) [] fates state its (λ body is. absurd (err-ok name.LimitsExceeded body is))
 
   pub leads-if : (b : Bool) (one other : Plan) → (b ≡ true → PlanLeads one) → PlanLeads other → PlanLeads (cond b one other)
@@ -79,13 +79,13 @@ module _ (Is : Body → Rows → Type 0) (caller : ConnId) (brought : Brought) (
   leads-if false one other first second = second
 
   -- how an edit ended that was to be stored
-  ended-by : (stem : List ℕ) (edit : Edit) (shown : PublicBody) → Is (body_with shown) (rows_asked brought (Store stem edit) stored.Stored state.collections)
+  ended-by : (stem : List ℕ) (edit : Edit) (shown : PublicBody) → Is (body_with shown) (contents_of (demanded brought (Store stem edit) stored.Stored state))
       → (ended : StoreFate) (rest : List Fate)
       → Leads Is (sending (sent_asked brought (Store stem edit) ended state) (run caller brought (by_fate shown ended) rest (demanded brought (Store stem edit) ended state)))
   ended-by stem edit shown its stored.Stored rest =
       let next = demanded brought (Store stem edit) stored.Stored state in
       ends-either (λ ran. Leads Is (sending (sent_asked brought (Store stem edit) stored.Stored state) ran)) caller brought (Returns shown) [] rest next
-      (λ body is. subst (λ (b : Body). Is b next.collections) (ok-same (body_with shown) body is) its) (λ body is. absurd (err-ok name.LimitsExceeded body is))
+      (λ body is. subst (λ (b : Body). Is b (contents_of next)) (ok-same (body_with shown) body is) its) (λ body is. absurd (err-ok name.LimitsExceeded body is))
   ended-by stem edit shown its stored.Before rest =
       ends-either (λ ran. Leads Is (sending (sent_asked brought (Store stem edit) stored.Before state) ran)) caller brought (Refuses name.IOError) [] rest (demanded brought (Store stem edit) stored.Before state)
       (λ body is. absurd (err-ok name.IOError body is)) (λ body is. absurd (err-ok name.LimitsExceeded body is))
@@ -95,7 +95,7 @@ module _ (Is : Body → Rows → Type 0) (caller : ConnId) (brought : Brought) (
 
   -- an edit that is stored, if it can be
   pub leads-stored : (stem : List ℕ) (edit : Edit) (returned : Changed → PublicBody) (answer : Option Changed)
-      → ((it : Changed) → answer ≡ Some it → Is (body_with (returned it)) (rows_asked brought (Store stem edit) stored.Stored state.collections))
+      → ((it : Changed) → answer ≡ Some it → Is (body_with (returned it)) (contents_of (demanded brought (Store stem edit) stored.Stored state)))
       → PlanLeads (storing stem edit returned answer)
   leads-stored stem edit returned None its = leads-refused name.LimitsExceeded
   leads-stored stem edit returned (Some it) its =
@@ -144,10 +144,10 @@ answer-of caller state next it given got =
     first-answer got.came.arrival.conn request.serial request.wants_reply answer (served got.came state).sends got.message got.wants (ap first-out got.sent) in
     returned-ok given answer (same_Some (reply-with answer) (reply.Return given) (sym (read-message request.serial answer) ∙ ap read_in message ∙ got.read))
 
--- ---- the collections after it
+-- ---- the collections and the aliases after it
 
--- a quiet event keeps the collections
-quiet-step : (state : State) (it : Event) → IsQuiet it → (step state it).collections ≡ state.collections
+-- a quiet event keeps them
+quiet-step : (state : State) (it : Event) → IsQuiet it → contents_of (step state it) ≡ contents_of state
 quiet-step state (event.Connect conn) is = refl
 quiet-step state (event.Arrive came) is = absurd is
 quiet-step state (event.Derived came) is = absurd is
@@ -155,7 +155,7 @@ quiet-step state (event.Leave conn) is = refl
 quiet-step state (event.Take conn) is = refl
 quiet-step state (event.Gone conn) is = refl
 
-quiet-replay : (state : State) (events : List Event) → AllByRecursion IsQuiet events → (replay state events).collections ≡ state.collections
+quiet-replay : (state : State) (events : List Event) → AllByRecursion IsQuiet events → contents_of (replay state events) ≡ contents_of state
 quiet-replay state [] are = refl
 quiet-replay state (it ∷ events) are = quiet-replay (step state it) events are.1 ∙ quiet-step state it are.0
 
@@ -163,13 +163,13 @@ quiet-replay state (it ∷ events) are = quiet-replay (step state it) events are
 abbrev serves : Recorded → State → Result Call CallFault → Ran
 serves came state it = ran came.arrival.conn (brought_with came.arrival.now it) (plan_of came.arrival.salt it) came.fates state
 
--- what is true of a call that returned, and of the collections before the next call, by what its plan leads to
-pub answered-with : (Is : Body → Rows → Type 0) (caller : ConnId) (state next : State) (it : Call) (given : Body) → Answered caller state it (reply.Return given) next
-    → ((conn : ConnId) (salt : List ℕ) (now : ℕ) (fates : List Fate) → Leads Is (ran conn (brought_with now (Ok it)) (plan_of salt (Ok it)) fates state)) → Is given next.collections
+-- what is true of a call that returned, and of the collections and the aliases before the next call, by what its plan leads to
+pub answered-with : (Is : Body → Contents → Type 0) (caller : ConnId) (state next : State) (it : Call) (given : Body) → Answered caller state it (reply.Return given) next
+    → ((conn : ConnId) (salt : List ℕ) (now : ℕ) (fates : List Fate) → Leads Is (ran conn (brought_with now (Ok it)) (plan_of salt (Ok it)) fates state)) → Is given (contents_of next)
 answered-with Is caller state next it given got leads =
     let came = got.came in
     let its : Leads Is (served came state) =
-    subst (λ (c : Result Call CallFault). Leads Is (serves came state c)) (sym got.asks) (leads came.arrival.conn came.arrival.salt came.arrival.now came.fates) in
-    let same : next.collections ≡ (served came state).state.collections =
-    ap (λ (s : State). s.collections) got.after ∙ quiet-replay (step state (event.Arrive came)) got.quiet got.are_quiet in
-    subst (λ (r : Rows). Is given r) (sym same) (its given (answer-of caller state next it given got))
+    subst (λ (call : Result Call CallFault). Leads Is (serves came state call)) (sym got.asks) (leads came.arrival.conn came.arrival.salt came.arrival.now came.fates) in
+    let same : contents_of next ≡ contents_of (served came state).state =
+    ap (λ (s : State). contents_of s) got.after ∙ quiet-replay (step state (event.Arrive came)) got.quiet got.are_quiet in
+    subst (λ (c : Contents). Is given c) (sym same) (its given (answer-of caller state next it given got))

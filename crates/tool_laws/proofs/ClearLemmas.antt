@@ -26,6 +26,7 @@ use Rattle.service_events.specs.secret_calls.specs.declared.out.ErrorName.TheVar
 use Rattle.service_events.specs.service_tables.specs.declared.fate.Fate.{Fate}
 use Rattle.service_events.specs.service_tables.specs.declared.fate.StoreFate.TheVariants as fate
 use Rattle.service_events.specs.service_tables.specs.Objects.{locked_paths}
+use Rattle.service_events.specs.service_tables.specs.Opened.{Contents, contents_of}
 use Rattle.service_events.specs.service_tables.specs.State.{State}
 use Rattle.service_events.specs.service_tables.specs.Storing.{Brought, Remove_item, row_after, row_changed, rows_stored, storable_edit}
 use Rattle.service_events.specs.CollectionCalls.{if_open, no_prompt, storing}
@@ -48,12 +49,12 @@ use Rattle.tool_laws.proofs.RowLemmas.{IsMade, Lacks, changed-here, changed-keep
 -- ---- an item is removed
 
 -- the item is removed from the collections, and stored so
-pub record IsRemoval (stem : List ℕ) (item : ItemId) (state : State) (given : Body) (rows : Rows) : Type 0 where
+pub record IsRemoval (stem : List ℕ) (item : ItemId) (state : State) (given : Body) (contents : Contents) : Type 0 where
   pub now : ℕ
   pub answer : Changed
   pub returned : given ≡ body.Object (codes "/")
   pub made : IsMade stem (change.Remove item) now state.collections answer
-  pub after : rows ≡ rows_stored stem (change.Remove item) now fate.Stored state.collections
+  pub after : contents.collections ≡ rows_stored stem (change.Remove item) now fate.Stored state.collections
 
 removes : (stem : List ℕ) (item : ItemId) (caller : ConnId) (brought : Brought) (fates : List Fate) (state : State)
     → PlanLeads (IsRemoval stem item state) caller brought fates state (delete_item stem item (asked caller brought state))
@@ -148,7 +149,7 @@ module _ (caller : ConnId) (last : State) (end : ScriptEnd) (all : ℕ) (are_rea
       subst (λ (o : Option Item). AreAnswered caller state (delete o rest) (reply.Return given ∷ more) last) back answers in
       let ended : option_map_or (λ it. cleared all paths more) (deleted_in given) (Some (stopped (reply.Return given))) ≡ Some end =
       subst (λ (o : Option Item). with_item o (option_map_or (λ it. cleared all paths more) (deleted_in given) (Some (stopped (reply.Return given)))) ≡ Some end) back ends in
-      let its : IsRemoval item.0 item.1 state given asked.0.collections =
+      let its : IsRemoval item.0 item.1 state given (contents_of asked.0) =
       answered-with (IsRemoval item.0 item.1 state) caller state asked.0 (call.DeleteItem item.0 item.1) given asked.1
       (λ conn salt now fates. removes item.0 item.1 conn (record { now = now; value = [] }) fates state) in
       let read : deleted_in given ≡ Some (codes "/") = ap deleted_in its.returned in
@@ -182,7 +183,7 @@ all-gone are_read caller state last wanted (reply.Return given ∷ more) end rea
     let rows = state.collections in
     let items = open_items wanted rows in
     let locked = locked_paths (found_in_all wanted rows) in
-    let its : IsSearch wanted state given answers.0.collections =
+    let its : IsSearch wanted state given (contents_of answers.0) =
     answered-with (IsSearch wanted state) caller state answers.0 (call.SearchItems wanted) given answers.1
     (λ conn salt now fates. searches wanted conn (record { now = now; value = [] }) fates state) in
     let read : found_in given ≡ Some (map path-of items, locked) = ap found_in its.found ∙ ap (λ (l : List (List ℕ)). Some (l, locked)) (open-listed wanted rows) in
@@ -191,7 +192,7 @@ all-gone are_read caller state last wanted (reply.Return given ∷ more) end rea
     let ended : cleared (length (map path-of items)) (map path-of items) more ≡ Some end =
     subst (λ (o : Option (List (List ℕ) × List (List ℕ))). option_map_or (λ found. cleared (length found.0) found.0 more) o (Some (stopped (reply.Return given))) ≡ Some end) read ends in
     let next = all-cleared caller last end (length (map path-of items)) are_read items answers.0 more (open-named wanted rows ready.sound.collections.each) asked returns.1 ended in
-    (subst (λ (r : Rows). AreCleared r last.collections items) its.same next.0, next.1 ∙ ap (λ n. done (counted (codes "cleared") n)) (map-length path-of items))
+    (subst (λ (c : Contents). AreCleared c.collections last.collections items) its.same next.0, next.1 ∙ ap (λ n. done (counted (codes "cleared") n)) (map-length path-of items))
 
 -- what is absent isn't shown
 absent-gone : (rows : Rows) (item : Item) → IsAbsent rows item → has_item item.0 item.1.0 rows ≡ false

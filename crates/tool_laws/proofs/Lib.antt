@@ -4,3 +4,4 @@ pub mod LookupLemmas
 pub mod MatchLemmas
 pub mod ReadyLemmas
 pub mod RowLemmas
+pub mod StoreLemmas

@@ -21,6 +21,7 @@ use Rattle.service_events.specs.secret_calls.specs.declared.out.ErrorName.TheVar
 use Rattle.service_events.specs.secret_calls.specs.declared.secret.ReturnedSecret.{ReturnedSecret}
 use Rattle.service_events.specs.service_tables.specs.declared.fate.Fate.{Fate}
 use Rattle.service_events.specs.service_tables.specs.Objects.{locked_paths, unlocked_paths}
+use Rattle.service_events.specs.service_tables.specs.Opened.{Contents, contents_of}
 use Rattle.service_events.specs.service_tables.specs.State.{State}
 use Rattle.service_events.specs.service_tables.specs.Storing.{Brought}
 use Rattle.service_events.specs.service_tables.specs.TablesReading.{secret_of}
@@ -45,10 +46,10 @@ use Rattle.tool_laws.proofs.MatchLemmas.{AreRead, IsNamed, item-back, locked-lis
 
 -- ---- the calls of `lookup`
 
--- a session is opened, and the collections stay as they are
-pub record IsOpening (state : State) (given : Body) (rows : Rows) : Type 0 where
+-- a session is opened, and the collections and the aliases stay as they are
+pub record IsOpening (state : State) (given : Body) (contents : Contents) : Type 0 where
   pub session : given ≡ body.Session (record { 0 = state.sessions.next })
-  pub same : rows ≡ state.collections
+  pub same : contents ≡ contents_of state
 
 pub opens : (caller : ConnId) (brought : Brought) (fates : List Fate) (state : State)
     → PlanLeads (IsOpening state) caller brought fates state (open_session (codes "plain") (asked caller brought state))
@@ -61,10 +62,10 @@ opens caller brought fates state =
     (leads-answered Is caller brought fates state shown (Open_session ∷ []) (record { session = refl; same = refl })))
     (leads-refused Is caller brought fates state name.NotSupported)
 
--- a search finds what matches, and the collections stay as they are
-pub record IsSearch (wanted : List (List ℕ × AttrValue)) (state : State) (given : Body) (rows : Rows) : Type 0 where
+-- a search finds what matches, and the collections and the aliases stay as they are
+pub record IsSearch (wanted : List (List ℕ × AttrValue)) (state : State) (given : Body) (contents : Contents) : Type 0 where
   pub found : given ≡ body.Found (unlocked_paths (found_in_all wanted state.collections)) (locked_paths (found_in_all wanted state.collections))
-  pub same : rows ≡ state.collections
+  pub same : contents ≡ contents_of state
 
 pub searches : (wanted : List (List ℕ × AttrValue)) (caller : ConnId) (brought : Brought) (fates : List Fate) (state : State)
     → PlanLeads (IsSearch wanted state) caller brought fates state (search_items wanted (asked caller brought state))
@@ -73,7 +74,7 @@ searches wanted caller brought fates state =
     leads-answered (IsSearch wanted state) caller brought fates state (public.Found (unlocked_paths found) (locked_paths found)) [] (record { found = refl; same = refl })
 
 -- the value of an item
-pub record HasValue (before : Rows) (stem : List ℕ) (item : ItemId) (given : Body) (rows : Rows) : Type 0 where
+pub record HasValue (before : Rows) (stem : List ℕ) (item : ItemId) (given : Body) (contents : Contents) : Type 0 where
   pub full : FullItem
   pub there : item_of stem item.0 before ≡ Some full
   pub secret : ReturnedSecret
@@ -85,12 +86,12 @@ abbrev made : SessionId → FullItem → Option (List ℕ) → Option ReturnedSe
 made session full content = option_map (λ c. record { session = session; value = full.value; content = c }) content
 
 -- a secret that is read is that of the item
-value-read : (before rows : Rows) (session : SessionId) (stem : List ℕ) (item : ItemId) (secret : ReturnedSecret) → secret_of session before stem item ≡ Some secret
-    → HasValue before stem item (body.Secret secret) rows
-value-read before rows session stem item secret e = pass (item_of stem item.0 before) (content_of stem item.0 before) refl e
+value-read : (before : Rows) (contents : Contents) (session : SessionId) (stem : List ℕ) (item : ItemId) (secret : ReturnedSecret) → secret_of session before stem item ≡ Some secret
+    → HasValue before stem item (body.Secret secret) contents
+value-read before contents session stem item secret e = pass (item_of stem item.0 before) (content_of stem item.0 before) refl e
   where
     pass : (full : Option FullItem) (content : Option (List ℕ)) → item_of stem item.0 before ≡ full → option_and_then (λ f. made session f content) full ≡ Some secret
-        → HasValue before stem item (body.Secret secret) rows
+        → HasValue before stem item (body.Secret secret) contents
     pass None content there e = absurd (none-some secret e)
     pass (Some full) None there e = absurd (none-some secret e)
     pass (Some full) (Some content) there e = record {
@@ -103,21 +104,21 @@ value-read before rows session stem item secret e = pass (item_of stem item.0 be
 
 -- the secret that is given is that of the item
 gives : (caller : ConnId) (state : State) (session : SessionId) (stem : List ℕ) (item : ItemId) (given : Body) → with_gift caller state (Secret_of session stem item) ≡ Ok given
-    → HasValue state.collections stem item given state.collections
+    → HasValue state.collections stem item given (contents_of state)
 gives caller state session stem item given e = owned (owns caller session state.sessions) e
   where
     rows : Rows
     rows = state.collections
 
-    shown : (found : Option ReturnedSecret) → secret_of session rows stem item ≡ found → secret_returned found ≡ Ok given → HasValue rows stem item given rows
+    shown : (found : Option ReturnedSecret) → secret_of session rows stem item ≡ found → secret_returned found ≡ Ok given → HasValue rows stem item given (contents_of state)
     shown None is e = absurd (err-ok name.NoSuchObject given e)
-    shown (Some it) is e = subst (λ (b : Body). HasValue rows stem item b rows) (ok-same (body.Secret it) given e) (value-read rows rows session stem item it is)
+    shown (Some it) is e = subst (λ (b : Body). HasValue rows stem item b (contents_of state)) (ok-same (body.Secret it) given e) (value-read rows (contents_of state) session stem item it is)
 
-    unlocked : (b : Bool) → cond b (secret_returned (secret_of session rows stem item)) (Err name.IsLocked) ≡ Ok given → HasValue rows stem item given rows
+    unlocked : (b : Bool) → cond b (secret_returned (secret_of session rows stem item)) (Err name.IsLocked) ≡ Ok given → HasValue rows stem item given (contents_of state)
     unlocked true e = shown (secret_of session rows stem item) refl e
     unlocked false e = absurd (err-ok name.IsLocked given e)
 
-    owned : (b : Bool) → cond b (with_own_gift state (Secret_of session stem item)) (Err name.NoSession) ≡ Ok given → HasValue rows stem item given rows
+    owned : (b : Bool) → cond b (with_own_gift state (Secret_of session stem item)) (Err name.NoSession) ≡ Ok given → HasValue rows stem item given (contents_of state)
     owned true e = unlocked (is_open stem rows) e
     owned false e = absurd (err-ok name.NoSession given e)
 
@@ -144,7 +145,7 @@ module _ (caller : ConnId) (rows : Rows) (last : State) (end : ScriptEnd) (are_r
   third state session item items locked [] same answers returns ends = absurd (none-some end ends)
   third state session item items locked (reply.Error text ∷ more) same answers returns ends = absurd returns.0
   third state session item items locked (reply.Return given ∷ more) same answers returns ends =
-      let its : HasValue state.collections item.0 item.1 given answers.0.collections =
+      let its : HasValue state.collections item.0 item.1 given (contents_of answers.0) =
       answered-with (HasValue state.collections item.0 item.1) caller state answers.0 (call.GetSecret item.0 item.1 (Some session)) given answers.1
       (λ conn salt now fates. reads item.0 item.1 session conn (record { now = now; value = [] }) fates state) in
       let value : value_in given ≡ Some its.secret.value = ap value_in its.is in
@@ -170,7 +171,7 @@ module _ (caller : ConnId) (rows : Rows) (last : State) (end : ScriptEnd) (are_r
   second state session wanted [] same names answers returns ends = absurd (none-some end ends)
   second state session wanted (reply.Error text ∷ more) same names answers returns ends = absurd returns.0
   second state session wanted (reply.Return given ∷ more) same names answers returns ends =
-      let its : IsSearch wanted state given answers.0.collections =
+      let its : IsSearch wanted state given (contents_of answers.0) =
       answered-with (IsSearch wanted state) caller state answers.0 (call.SearchItems wanted) given answers.1
       (λ conn salt now fates. searches wanted conn (record { now = now; value = [] }) fates state) in
       let unlocked : unlocked_paths (found_in_all wanted state.collections) ≡ map path-of (open_items wanted rows) =
@@ -180,7 +181,7 @@ module _ (caller : ConnId) (rows : Rows) (last : State) (end : ScriptEnd) (are_r
       let read : found_in given ≡ Some (map path-of (open_items wanted rows), map path-of (locked_items wanted rows)) =
       ap found_in its.found ∙ ap (λ (l : List (List ℕ)). Some (l, locked_paths (found_in_all wanted state.collections))) unlocked
       ∙ ap (λ (l : List (List ℕ)). Some (map path-of (open_items wanted rows), l)) locked in
-      matched answers.0 session (open_items wanted rows) (locked_items wanted rows) more (its.same ∙ same) names
+      matched answers.0 session (open_items wanted rows) (locked_items wanted rows) more (ap (λ (c : Contents). c.collections) its.same ∙ same) names
       (subst (λ (o : Option (List (List ℕ) × List (List ℕ))). AreAnswered caller answers.0 (option_map_or (λ found. get_first session found.0) o []) more last) read answers.2) returns.1
       (subst (λ (o : Option (List (List ℕ) × List (List ℕ))). option_map_or (λ found. first_printed found.0 found.1 more) o (Some (stopped (reply.Return given))) ≡ Some end) read ends)
 
@@ -200,9 +201,9 @@ looked-up are_read caller state last wanted [] end ready answers returns ends = 
 looked-up are_read caller state last wanted (reply.Error text ∷ more) end ready answers returns ends = absurd returns.0
 looked-up are_read caller state last wanted (reply.Return given ∷ more) end ready answers returns ends =
     let session : SessionId = record { 0 = state.sessions.next } in
-    let its : IsOpening state given answers.0.collections =
+    let its : IsOpening state given (contents_of answers.0) =
     answered-with (IsOpening state) caller state answers.0 script.open_session given answers.1 (λ conn salt now fates. opens conn (record { now = now; value = [] }) fates state) in
     let read : session_in given ≡ Some session = ap session_in its.session ∙ session-read session ready.numbered in
-    second caller state.collections last end are_read answers.0 session wanted more its.same (open-named wanted state.collections ready.sound.collections.each)
+    second caller state.collections last end are_read answers.0 session wanted more (ap (λ (c : Contents). c.collections) its.same) (open-named wanted state.collections ready.sound.collections.each)
     (subst (λ (o : Option SessionId). AreAnswered caller answers.0 (option_map_or (λ s. call.SearchItems wanted ∷ then_calls found_in (λ found more. get_first s found.0) more) o []) more last) read answers.2) returns.1
     (subst (λ (o : Option SessionId). option_map_or (λ s. then_ends found_in (λ found more. first_printed found.0 found.1 more) more) o (Some (stopped (reply.Return given))) ≡ Some end) read ends)

@@ -3,3 +3,4 @@ pub mod Conversations
 pub mod Lookup
 pub mod Matches
 pub mod Ready
+pub mod Store
