@@ -28,7 +28,7 @@ use Rattle.service_events.specs.CollectionCalls.{by_fate, storing}
 use Rattle.service_events.specs.Plan.{Returns, Gives, Refuses, Change, Gift, Plan, Store, answered, given, refused}
 use Rattle.service_events.specs.PublicBody.{PublicBody, body_with}
 use Rattle.service_events.specs.Replay.{replay}
-use Rattle.service_events.specs.Run.{Ran, demanded, failing, performed_all, promised, ran, run, sending, sent_asked, with_gift}
+use Rattle.service_events.specs.Run.{Ran, by_store, demanded, failing, performed_all, promised, ran, run, sending, sent_asked, with_gift}
 use Rattle.service_events.specs.Step.{brought_with, message_of, plan_of, served, step}
 use Rattle.service_events.proofs.EndLemmas.{ends-either}
 use Rattle.service_events.proofs.RunLemmas.{fits-either, store-either}
@@ -78,10 +78,12 @@ module _ (Is : Body → Contents → Type 0) (caller : ConnId) (brought : Brough
   leads-if true one other first second = first refl
   leads-if false one other first second = second
 
-  -- how an edit ended that was to be stored
+  -- what an edit leads to by how it ended, once it was to be stored
+  abbrev ran-by : List ℕ → Edit → PublicBody → StoreFate → List Fate → Ran
+  ran-by stem edit shown ended rest = sending (sent_asked brought (Store stem edit) ended state) (run caller brought (by_fate shown ended) rest (demanded brought (Store stem edit) ended state))
+
   ended-by : (stem : List ℕ) (edit : Edit) (shown : PublicBody) → Is (body_with shown) (contents_of (demanded brought (Store stem edit) stored.Stored state))
-      → (ended : StoreFate) (rest : List Fate)
-      → Leads Is (sending (sent_asked brought (Store stem edit) ended state) (run caller brought (by_fate shown ended) rest (demanded brought (Store stem edit) ended state)))
+      → (ended : StoreFate) (rest : List Fate) → Leads Is (ran-by stem edit shown ended rest)
   ended-by stem edit shown its stored.Stored rest =
       let next = demanded brought (Store stem edit) stored.Stored state in
       ends-either (λ ran. Leads Is (sending (sent_asked brought (Store stem edit) stored.Stored state) ran)) caller brought (Returns shown) [] rest next
@@ -100,8 +102,8 @@ module _ (Is : Body → Contents → Type 0) (caller : ConnId) (brought : Brough
   leads-stored stem edit returned None its = leads-refused name.LimitsExceeded
   leads-stored stem edit returned (Some it) its =
       let fails : (fault : ErrorName) → Leads Is (failing fault state) = λ fault body is. absurd (err-ok fault body is) in
-      fits-either (Leads Is) (promised caller state (by_fate (returned it) stored.Stored)) _ (failing name.LimitsExceeded state)
-      (λ small. store-either (Leads Is) (failing name.IOError state) _ fates (fails name.IOError) (ended-by stem edit (returned it) (its it refl))) (fails name.LimitsExceeded)
+      fits-either (Leads Is) (promised caller state (by_fate (returned it) stored.Stored)) (by_store (failing name.IOError state) (ran-by stem edit (returned it)) fates) (failing name.LimitsExceeded state)
+      (λ small. store-either (Leads Is) (failing name.IOError state) (ran-by stem edit (returned it)) fates (fails name.IOError) (ended-by stem edit (returned it) (its it refl))) (fails name.LimitsExceeded)
 
 -- ---- a reply
 

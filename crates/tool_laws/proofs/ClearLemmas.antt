@@ -1,14 +1,16 @@
 -- What each call of `clear` leads to, unless it is refused.
-use Rattle.std.proofs.Common.{◌≡◌, ℕ, suc, Bool, true, false, cond, not, nat_eq, List, [], ◌∷◌, length, map, IfSome, Option, Some, None, Result, Ok, Err, refl, sym, ap, subst, ◌∙◌, codes}
+use Rattle.std.proofs.Common.{◌≡◌, ℕ, Bool, true, false, cond, not, nat_eq, List, [], ◌∷◌, filter, length, map, IfSome, Option, Some, None, Result, Ok, Err, refl, sym, ap, subst, ◌∙◌, codes}
 use Rattle.std.specs.List.{AllByRecursion}
 use Rattle.std.specs.Option.{option_map, option_map_or}
+use Rattle.std.proofs.lemmas.List.{length-map}
 use Rattle.std.proofs.lemmas.Option.{none-some, same_Some}
-use Rattle.kr_base.specs.Attributes.{value_at}
+use Rattle.kr_base.specs.Attributes.{IsInOrder, value_at}
 use Rattle.kr_base.specs.declared.attributes.AttrValue.{AttrValue}
 use Rattle.kr_base.specs.declared.ids.ConnId.{ConnId}
 use Rattle.kr_base.specs.declared.ids.ItemId.{ItemId}
 use Rattle.item_store.specs.declared.fault.ItemFault.{ItemFault}
 use Rattle.item_store.specs.declared.fault.ItemFault.TheVariants as item_fault
+use Rattle.attribute_match.specs.Match.{matches}
 use Rattle.keyring_seal.specs.Arranged.{Row, row_number}
 use Rattle.keyring_seal.specs.declared.content.Content.{Content}
 use Rattle.client_core.specs.declared.reply.Reply.{Reply}
@@ -39,12 +41,13 @@ use Rattle.tool_script.specs.Replies.{deleted_in, found_in, item_at}
 use Rattle.tool_script.specs.Script.{cleared, counted, delete, deletes, done, print, script, stopped, with_item}
 use Rattle.tool_laws.specs.Clear.{AreGone}
 use Rattle.tool_laws.specs.Conversations.{AreAnswered, AreReturns}
-use Rattle.tool_laws.specs.Matches.{Item, open_items}
+use Rattle.tool_laws.specs.Matches.{Item, open_in, open_items}
 use Rattle.tool_laws.specs.Ready.{IsReady}
 use Rattle.tool_laws.proofs.AnswerLemmas.{PlanLeads, answered-with, leads-if, leads-refused, leads-stored}
 use Rattle.tool_laws.proofs.LookupLemmas.{IsSearch, searches}
 use Rattle.tool_laws.proofs.MatchLemmas.{AreRead, IsNamed, item-back, open-listed, open-named, path-of}
-use Rattle.tool_laws.proofs.RowLemmas.{IsMade, Lacks, changed-here, changed-keeps, fewer-lack, made-so, storable-is, stored-lacks, without-lack}
+use Rattle.tool_laws.proofs.NoMatchLemmas.{each-at, each-fewer, matches-changed, none-matched, ordered-changed}
+use Rattle.tool_laws.proofs.RowLemmas.{IsAbsent, IsMade, Lacks, rows-stored, changed-here, changed-keeps, fewer-lack, made-so, storable-is, stored-lacks, without-lack}
 
 -- ---- an item is removed
 
@@ -76,10 +79,6 @@ removes stem item caller brought fates state =
 
 -- ---- an item that isn't there stays away
 
--- the item isn't in the collection of its stem, if there is one
-abbrev pub IsAbsent : Rows → Item → Type 0
-IsAbsent rows item = IfSome (value_at item.0 rows) (Lacks item.1.0)
-
 -- the rows without an item, if it is there
 abbrev removed-in : ItemId → List Row → Bool → Result (List Row × Changed) ItemFault
 removed-in item rows there = cond there (Ok (rows_without item.0 rows, changes.Removed item)) (Err item_fault.NoItem)
@@ -102,6 +101,33 @@ removal-keeps id item now row lacks = pass row.held lacks.kept
         → Lacks id (option_map_or (λ (h : Held). row_after fate.Stored h row (content-in item now row h (has_row item.0 h.rows))) held row)
     pass None lack = lacks
     pass (Some held) lack = made held (has_row item.0 held.rows) lack
+
+-- what is true of each match in a collection stays true of each once an item was removed and stored
+removal-matches : (P : Item → Type 0) (wanted : List (List ℕ × AttrValue)) (item : ItemId) (now : ℕ) (at : List ℕ) (row : CollectionRow) → AllByRecursion P (open_in wanted at row.held)
+    → AllByRecursion P (open_in wanted at (row_changed (change.Remove item) now fate.Stored row).held)
+removal-matches P wanted item now at row are = pass row.held refl are
+  where
+    match : Row → Bool
+    match r = matches wanted r.1.attributes
+
+    to : Row → Item
+    to r = (at, r.0.id)
+
+    same : (held : Held) → row.held ≡ Some held → AllByRecursion P (open_in wanted at (Some held)) → AllByRecursion P (open_in wanted at row.held)
+    same held is its = subst (λ (o : Option Held). AllByRecursion P (open_in wanted at o)) (sym is) its
+
+    made : (held : Held) (there : Bool) → row.held ≡ Some held → AllByRecursion P (open_in wanted at (Some held))
+        → AllByRecursion P (open_in wanted at (row_after fate.Stored held row (content-in item now row held there)).held)
+    made held true is its =
+        let front = record row.clear { name = row.clear.name } in
+        subst (λ (l : List Row). AllByRecursion P (map to (filter match l))) (sym (rows-stored now front (rows_without item.0 held.rows)))
+        (each-fewer P to match (λ (r : Row). not (nat_eq (row_number r) item.0)) held.rows its)
+    made held false is its = same held is its
+
+    pass : (held : Option Held) → row.held ≡ held → AllByRecursion P (open_in wanted at held)
+        → AllByRecursion P (open_in wanted at (option_map_or (λ (h : Held). row_after fate.Stored h row (content-in item now row h (has_row item.0 h.rows))) held row).held)
+    pass None is its = subst (λ (o : Option Held). AllByRecursion P (open_in wanted at o)) (sym is) its
+    pass (Some held) is its = made held (has_row item.0 held.rows) is its
 
 -- no content, since the item isn't there
 abbrev no-item : Result (Content × Changed) ItemFault
@@ -126,17 +152,26 @@ removal-lacks item now stem rows answer is =
 
 -- ---- the conversation, from its last call on
 
--- what holds of the collections at the end, by those that there are: these items are gone, and what was gone stays so
+-- what holds of the collections at the end, by those that there are: these items are gone, and what was gone stays so. No other item comes to match
 pub record AreCleared (before after : Rows) (items : List Item) : Type 0 where
   pub gone : AllByRecursion (IsAbsent after) items
   pub stays : (item : Item) → IsAbsent before item → IsAbsent after item
+  pub matched : (wanted : List (List ℕ × AttrValue)) → AllByRecursion (IsAbsent after) (open_items wanted before) → AllByRecursion (IsAbsent after) (open_items wanted after)
+  pub ordered : IsInOrder before → IsInOrder after
 
 module _ (caller : ConnId) (last : State) (end : ScriptEnd) (all : ℕ) (are_read : AreRead) where
   all-cleared : (items : List Item) (state : State) (replies : List Reply) → AllByRecursion IsNamed items → AreAnswered caller state (deletes (map path-of items) replies) replies last
       → AreReturns replies → cleared all (map path-of items) replies ≡ Some end
       → AreCleared state.collections last.collections items × (end ≡ done (counted (codes "cleared") all))
-  all-cleared [] state [] names answers returns ends =
-      (record { gone = tt; stays = λ item is. subst (λ (s : State). IsAbsent s.collections item) (sym answers) is }, sym (same_Some (done (counted (codes "cleared") all)) end ends))
+  all-cleared [] state [] names answers returns ends = (
+    record {
+      gone = tt;
+      stays = λ item is. subst (λ (s : State). IsAbsent s.collections item) (sym answers) is;
+      matched = λ wanted are. subst (λ (s : State). AllByRecursion (IsAbsent last.collections) (open_items wanted s.collections)) (sym answers) are;
+      ordered = λ are. subst (λ (s : State). IsInOrder s.collections) (sym answers) are;
+    },
+    sym (same_Some (done (counted (codes "cleared") all)) end ends),
+  )
   all-cleared [] state (one ∷ more) names answers returns ends = absurd answers
   all-cleared (item ∷ items) state [] names answers returns ends =
       absurd (none-some end (subst (λ (o : Option Item). with_item o None ≡ Some end) (item-back are_read item names.0) ends))
@@ -165,13 +200,12 @@ module _ (caller : ConnId) (last : State) (end : ScriptEnd) (all : ℕ) (are_rea
           gone = (next.0.stays item goes, next.0.gone);
           stays = λ other is. next.0.stays other (subst (λ (r : Rows). IsAbsent r other) (sym its.after)
               (changed-keeps item.0 f (Lacks other.1.0) (removal-keeps other.1.0 item.1 its.now) other.0 state.collections is));
+          matched = λ wanted are. next.0.matched wanted (subst (λ (r : Rows). AllByRecursion (IsAbsent last.collections) (open_items wanted r)) (sym its.after)
+              (matches-changed (IsAbsent last.collections) wanted item.0 f (removal-matches (IsAbsent last.collections) wanted item.1 its.now) state.collections are));
+          ordered = λ are. next.0.ordered (subst (λ (r : Rows). IsInOrder r) (sym its.after) (ordered-changed item.0 f state.collections are));
         },
         next.1,
       )
-
-map-length : {A B : Type 0} (f : A → B) (xs : List A) → length (map f xs) ≡ length xs
-map-length f [] = refl
-map-length f (x ∷ xs) = ap suc (map-length f xs)
 
 -- the whole of it, by the collections at the end
 pub all-gone : AreRead → (caller : ConnId) (state last : State) (wanted : List (List ℕ × AttrValue)) (replies : List Reply) (end : ScriptEnd) → IsReady state
@@ -192,7 +226,7 @@ all-gone are_read caller state last wanted (reply.Return given ∷ more) end rea
     let ended : cleared (length (map path-of items)) (map path-of items) more ≡ Some end =
     subst (λ (o : Option (List (List ℕ) × List (List ℕ))). option_map_or (λ found. cleared (length found.0) found.0 more) o (Some (stopped (reply.Return given))) ≡ Some end) read ends in
     let next = all-cleared caller last end (length (map path-of items)) are_read items answers.0 more (open-named wanted rows ready.sound.collections.each) asked returns.1 ended in
-    (subst (λ (c : Contents). AreCleared c.collections last.collections items) its.same next.0, next.1 ∙ ap (λ n. done (counted (codes "cleared") n)) (map-length path-of items))
+    (subst (λ (c : Contents). AreCleared c.collections last.collections items) its.same next.0, next.1 ∙ ap (λ n. done (counted (codes "cleared") n)) (length-map items path-of))
 
 -- what is absent isn't shown
 absent-gone : (rows : Rows) (item : Item) → IsAbsent rows item → has_item item.0 item.1.0 rows ≡ false
@@ -205,3 +239,7 @@ absent-gone rows item is = pass (value_at item.0 rows) is
 pub are-gone : (rows : Rows) (items : List Item) → AllByRecursion (IsAbsent rows) items → AreGone rows items
 are-gone rows [] are = tt
 are-gone rows (item ∷ items) are = (absent-gone rows item are.0, are-gone rows items are.1)
+
+-- no match is left
+pub none-left : (before after : Rows) (wanted : List (List ℕ × AttrValue)) → IsInOrder before → AreCleared before after (open_items wanted before) → open_items wanted after ≡ []
+none-left before after wanted ordered are = none-matched wanted after after (each-at after (are.ordered ordered)) (are.matched wanted are.gone)

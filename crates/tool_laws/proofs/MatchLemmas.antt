@@ -1,6 +1,7 @@
 -- What a search lists: the paths of the items that match, each of which leads back to its item.
 use Rattle.std.proofs.Common.{◌≡◌, ℕ, List, [], ◌∷◌, ◌++◌, filter, map, IfSome, Option, Some, None, refl, sym, ap, ◌∙◌}
 use Rattle.std.specs.List.{AllByRecursion}
+use Rattle.std.proofs.lemmas.List.{map-append}
 use Rattle.kr_base.specs.declared.attributes.AttrValue.{AttrValue}
 use Rattle.kr_base.specs.declared.ids.ItemId.{ItemId}
 use Rattle.kr_base.specs.Stem.{IsStem}
@@ -15,17 +16,13 @@ use Rattle.service_events.specs.collection_store.specs.State.{Held}
 use Rattle.service_events.specs.collection_table.specs.Rows.{Rows, found_in_all}
 use Rattle.service_events.specs.service_tables.specs.Objects.{item_paths, locked_paths, unlocked_paths}
 use Rattle.service_events.specs.service_tables.specs.Sound.{IsSoundCollection, IsSoundItem, AreSoundItems}
-use Rattle.service_events.specs.service_tables.proofs.EachLemmas.{each-filter, each-mapped}
+use Rattle.service_events.specs.service_tables.proofs.EachLemmas.{each-append, each-filter, each-mapped}
 use Rattle.tool_script.specs.Replies.{item_at, parts_of_name}
 use Rattle.tool_laws.specs.Matches.{Item, locked_in, locked_items, open_in, open_items}
 
 -- the path of an item
 abbrev pub path-of : Item → List ℕ
 path-of item = path_text (object.Item item.0 item.1)
-
-map-both : {A B : Type 0} (f : A → B) (xs ys : List A) → map f (xs ++ ys) ≡ map f xs ++ map f ys
-map-both f [] ys = refl
-map-both f (x ∷ xs) ys = ap (λ (l : List _). f x ∷ l) (map-both f xs ys)
 
 -- the paths of rows in a collection
 row-paths : {A : Type 0} (id : A → ItemId) (stem : List ℕ) (xs : List A)
@@ -44,7 +41,7 @@ open-listed wanted (row ∷ rows) = pass row.1.held (open-listed wanted rows)
     pass (Some held) rest =
         let its = filter (λ (r : Row). matches wanted r.1.attributes) held.rows in
         ap (λ (l : List (List ℕ)). l ++ unlocked_paths (found_in_all wanted rows)) (row-paths (λ (r : Row). r.0.id) row.0 its)
-        ∙ ap (λ (l : List (List ℕ)). map path-of (open_in wanted row.0 (Some held)) ++ l) rest ∙ sym (map-both path-of (open_in wanted row.0 (Some held)) (open_items wanted rows))
+        ∙ ap (λ (l : List (List ℕ)). map path-of (open_in wanted row.0 (Some held)) ++ l) rest ∙ sym (map-append path-of (open_in wanted row.0 (Some held)) (open_items wanted rows))
 
 -- the same in locked collections
 pub locked-listed : (wanted : List (List ℕ × AttrValue)) (rows : Rows) → locked_paths (found_in_all wanted rows) ≡ map path-of (locked_items wanted rows)
@@ -60,15 +57,11 @@ locked-listed wanted (row ∷ rows) = pass row.1.held (locked-listed wanted rows
     pass None rest =
         let its = filter (λ (item : ClearItem). hashed_matches wanted item.hashed) items in
         ap (λ (l : List (List ℕ)). l ++ locked_paths (found_in_all wanted rows)) (row-paths (λ (item : ClearItem). item.id) row.0 its)
-        ∙ ap (λ (l : List (List ℕ)). map path-of (locked_in wanted row.0 items None) ++ l) rest ∙ sym (map-both path-of (locked_in wanted row.0 items None) (locked_items wanted rows))
+        ∙ ap (λ (l : List (List ℕ)). map path-of (locked_in wanted row.0 items None) ++ l) rest ∙ sym (map-append path-of (locked_in wanted row.0 items None) (locked_items wanted rows))
 
 -- the item has a path
 abbrev pub IsNamed : Item → Type 0
 IsNamed item = IsName (object.Item item.0 item.1)
-
-each-both : {A : Type 0} (P : A → Type 0) (xs ys : List A) → AllByRecursion P xs → AllByRecursion P ys → AllByRecursion P (xs ++ ys)
-each-both P [] ys first second = second
-each-both P (x ∷ xs) ys first second = (first.0, each-both P xs ys first.1 second)
 
 -- what is known of a sound row gives it a path
 rows-named : (stem : List ℕ) → IsStem stem → (rows : List Row) → AllByRecursion IsSoundItem rows → AllByRecursion (λ (row : Row). IsNamed (stem, row.0.id)) rows
@@ -79,7 +72,7 @@ rows-named stem is (row ∷ rows) are = ((is, are.0.clear.id), rows-named stem i
 pub open-named : (wanted : List (List ℕ × AttrValue)) (rows : Rows) → AllByRecursion IsSoundCollection rows → AllByRecursion IsNamed (open_items wanted rows)
 open-named wanted [] are = tt
 open-named wanted (row ∷ rows) are =
-    each-both IsNamed (open_in wanted row.0 row.1.held) (open_items wanted rows) (pass row.1.held are.0.held) (open-named wanted rows are.1)
+    each-append IsNamed (open_in wanted row.0 row.1.held) (open_items wanted rows) (pass row.1.held are.0.held) (open-named wanted rows are.1)
   where
     pass : (held : Option Held) → IfSome held AreSoundItems → AllByRecursion IsNamed (open_in wanted row.0 held)
     pass None is = tt

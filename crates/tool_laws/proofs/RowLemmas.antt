@@ -1,7 +1,8 @@
 -- What an edit that is stored makes of the collections.
-use Rattle.std.proofs.Common.{◌≡◌, ℕ, ◌||◌, Bool, true, false, cond, not, nat_eq, nat_le, List, [], ◌∷◌, filter, map, IfSome, length, Option, Some, None, Result, Ok, Err, refl, ap, ◌∙◌}
+use Rattle.std.proofs.Common.{◌≡◌, ℕ, ◌||◌, Bool, true, false, cond, not, nat_eq, nat_le, List, [], ◌∷◌, filter, map, IfSome, length, Option, Some, None, Result, Ok, Err, refl, ap, ◌∙◌, arith}
 use Rattle.std.specs.List.{list_any, zip}
 use Rattle.std.specs.Option.{option_and_then, option_map}
+use Rattle.std.proofs.lemmas.Bool.Decides.{nat_tests}
 use Rattle.std.proofs.lemmas.Option.{none-some, same_Some}
 use Rattle.kr_base.specs.Attributes.{is_name, value_at}
 use Rattle.item_store.specs.declared.fault.ItemFault.{ItemFault}
@@ -20,6 +21,7 @@ use Rattle.service_events.specs.collection_store.specs.declared.refused.ChangeRe
 use Rattle.service_events.specs.collection_table.specs.Entries.{changed}
 use Rattle.service_events.specs.collection_table.specs.Rows.{CollectionRow, Rows, room_in, shows_item, stored}
 use Rattle.service_events.specs.service_tables.specs.Storing.{has_place, placed, placed_answer, storable_at}
+use Rattle.tool_laws.specs.Matches.{Item}
 
 -- ---- what is at a stem once something is changed there
 
@@ -106,12 +108,19 @@ shown-rows : (id : ℕ) (these : List Row) → list_any (λ (item : ClearItem). 
 shown-rows id [] = refl
 shown-rows id (row ∷ these) = ap (λ b. nat_eq (row_number row) id || b) (shown-rows id these)
 
+pub eq-from : (n m : ℕ) → n ≡ m → nat_eq n m ≡ true
+eq-from n m e = grind (arith, nat_tests, e)
+
 -- ---- an item that isn't there
 
 -- neither what a collection shows nor what it keeps has an item of the id
 pub record Lacks (id : ℕ) (row : CollectionRow) : Type 0 where
   pub shown : shows_item id row ≡ false
   pub kept : IfSome row.held (λ held. has_row id held.rows ≡ false)
+
+-- the item isn't in the collection of its stem, if there is one
+abbrev pub IsAbsent : Rows → Item → Type 0
+IsAbsent rows item = IfSome (value_at item.0 rows) (Lacks item.1.0)
 
 -- a collection once rows without an item are stored
 pub stored-lacks : (id now : ℕ) (front : ClearPart) (these : List Row) (key vector : List ℕ) → has_row id these ≡ false → Lacks id (stored (content_stored now front these) key vector)

@@ -2,7 +2,6 @@
 use Rattle.std.proofs.Common.{◌≡◌, ℕ, ◌&&◌, Bool, true, false, cond, nat_eq, nat_le, nat_lt, List, [], ◌∷◌, ◌++◌, length, map, filter, Contains, Option, Some, None, Result, Ok, Err, refl, sym, ap, subst, ◌∙◌, arith, codes}
 use Rattle.std.specs.Cmp.Lexicographic.{pointwise}
 use Rattle.std.specs.Option.{option_map, option_map_or}
-use Rattle.std.proofs.lemmas.Bool.Decides.{nat_tests}
 use Rattle.std.proofs.lemmas.List.Elements.{Contains-append_right, Contains-push}
 use Rattle.std.proofs.lemmas.Map.Lookups.{exact_bytes}
 use Rattle.std.proofs.lemmas.Option.{none-some, same_Some}
@@ -55,7 +54,7 @@ use Rattle.tool_laws.specs.Ready.{IsReady}
 use Rattle.tool_laws.specs.Store.{LeavesItem}
 use Rattle.tool_laws.proofs.AnswerLemmas.{PlanLeads, answered-with, leads-if, leads-refused, leads-stored}
 use Rattle.tool_laws.proofs.LookupLemmas.{IsOpening, opens, session-read}
-use Rattle.tool_laws.proofs.RowLemmas.{IsMade, changed-here, made-so, rows-stored, storable-is}
+use Rattle.tool_laws.proofs.RowLemmas.{IsMade, changed-here, eq-from, made-so, rows-stored, storable-is}
 
 -- ---- attributes that are shown alike
 
@@ -79,9 +78,6 @@ texts-same (x ∷ xs) (y ∷ ys) e =
     let texts = same-name x.1 y.1 halves.1 in
     let rest = texts-same xs ys both.1 in
     λ i. (names i, texts i) ∷ rest i
-
-eq-from : (n m : ℕ) → n ≡ m → nat_eq n m ≡ true
-eq-from n m e = grind (arith, nat_tests, e)
 
 -- no content, for this reason
 abbrev failed : ItemFault → Result (Content × Changed) ItemFault
