@@ -5,4 +5,5 @@ pub mod MatchLemmas
 pub mod NoMatchLemmas
 pub mod ReadyLemmas
 pub mod RowLemmas
+pub mod StepLemmas
 pub mod StoreLemmas

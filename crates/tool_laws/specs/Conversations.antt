@@ -1,5 +1,5 @@
 -- A client's calls of the service, each made once the one before it is answered, while no other request is made and no key is brought.
-use Rattle.std.specs.Prelude.{◌≡◌, List, [], ◌∷◌, Option, Some, None, true, Ok}
+use Rattle.std.specs.Prelude.{◌≡◌, List, [], ◌∷◌, ◌++◌, Option, Some, None, true, Ok}
 use Rattle.std.specs.List.{AllByRecursion}
 use Rattle.kr_base.specs.declared.ids.ConnId.{ConnId}
 use Rattle.client_core.specs.declared.reply.Reply.{Reply}
@@ -15,6 +15,9 @@ use Rattle.service_events.specs.declared.event.Event.TheVariants as event
 use Rattle.service_events.specs.declared.event.Recorded.{Recorded}
 use Rattle.service_events.specs.Replay.{replay}
 use Rattle.service_events.specs.Step.{puts_out}
+use Rattle.tool_script.specs.declared.command.Command.{Command}
+use Rattle.tool_script.specs.declared.steps.ToolStep.TheVariants as step
+use Rattle.tool_script.specs.Script.{step_after}
 
 -- the event makes no request and brings no key: what waits is taken, or a connection joins, leaves or is gone
 abbrev pub IsQuiet : Event → Type 0
@@ -60,3 +63,13 @@ IsReturn (reply.Error name) = ⊥
 -- no reply is an error
 abbrev pub AreReturns : List Reply → Type 0
 AreReturns replies = AllByRecursion IsReturn replies
+
+-- What a script says to do after these replies is to make a call; it is answered by the first of more replies, and so on, from one state to another.
+abbrev pub AreSteps : Command → ConnId → List Reply → State → List Reply → State → Type 0
+AreSteps command caller heard state [] last = last ≡ state
+AreSteps command caller heard state (reply ∷ more) last =
+    (call : Call)
+    × (next : State)
+    × (step_after command heard ≡ Some (step.Send call))
+    × Answered caller state call reply next
+    × AreSteps command caller (heard ++ reply ∷ []) next more last

@@ -1,5 +1,5 @@
--- The items that match what is wanted, each by the stem of its collection and its id, in the order of the state's rows, which is that of stems
--- and then of ids (Secret Service API draft 0.2, "Lookup Attributes").
+-- The items that match what is wanted, each by the stem of its collection and its id, in the order of the state's rows: by stem, and those of
+-- one collection as it keeps them (Secret Service API draft 0.2, "Lookup Attributes").
 use Rattle.std.specs.Prelude.{ℕ, List, [], filter, map, Option, Some, None}
 use Rattle.std.specs.List.{flat_map}
 use Rattle.kr_base.specs.declared.attributes.AttrValue.{AttrValue}

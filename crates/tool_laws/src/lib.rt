@@ -7,11 +7,13 @@
 #![tactic(auto)]
 
 mod clear;
+mod conversations;
 mod lookup;
 mod ready;
 mod store;
 
 pub use clear::clear_leaves_no_match;
+pub use conversations::answered_steps_are_those_of_the_script;
 pub use lookup::lookup_prints_the_first_match;
 pub use ready::each_state_of_a_service_is_ready;
 pub use store::store_leaves_its_item;
