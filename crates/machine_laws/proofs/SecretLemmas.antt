@@ -1,6 +1,6 @@
 -- Whatever a plan says, its answer has only secrets of items of unlocked collections, for sessions that its caller owns. Of the calls, GetSecret alone is answered by the secret of
 -- one item, which is the one that it is called on.
-use Rattle.std.proofs.Common.{◌≡◌, ⊎_elim, ℕ, ◌≤◌, Bool, true, false, cond, IsSomeAnd, List, [], ◌∷◌, length, slice_get, Contains, Option, Some, None, Result, Ok, Err, refl, sym, ap, subst, ◌∙◌, arith, is_some, filter}
+use Rattle.std.proofs.Common.{◌≡◌, ⊎_elim, ℕ, ◌≤◌, ◌&&◌, Bool, true, false, cond, IsSomeAnd, List, [], ◌∷◌, length, slice_get, Contains, Option, Some, None, Result, Ok, Err, refl, sym, ap, subst, ◌∙◌, arith, is_some, filter}
 use Rattle.std.specs.List.{AllByRecursion, cons_option, filter_map}
 use Rattle.std.specs.Option.{option_and_then, option_map, option_map_or}
 use Rattle.std.proofs.lemmas.Bool.{eqb-true, le-leb}
@@ -42,7 +42,12 @@ use Rattle.service_events.specs.service_tables.specs.TablesReading.{item_secret,
 use Rattle.service_events.specs.service_tables.specs.Sent.{One, Sent, is_for}
 use Rattle.service_events.specs.service_tables.specs.State.{State}
 use Rattle.service_events.specs.service_tables.specs.Storing.{Brought}
+use Rattle.service_events.specs.service_tables.specs.Opened.{contents_of}
+use Rattle.service_events.specs.service_tables.specs.Sound.{IsSound}
+use Rattle.service_events.specs.service_tables.specs.TablesReading.{asked_collections}
+use Rattle.service_events.specs.service_tables.proofs.CollectionLemmas.{once-each}
 use Rattle.service_events.specs.service_tables.proofs.EachLemmas.{each-append, each-weaker}
+use Rattle.service_events.specs.service_tables.proofs.HeldLemmas.{secret-there}
 use Rattle.service_events.specs.declared.event.Event.{Event}
 use Rattle.service_events.specs.declared.event.Event.TheVariants as event
 use Rattle.service_events.specs.declared.event.Recorded.{Recorded}
@@ -430,6 +435,20 @@ shown_on_call state came stem item session secret call wanted own there is small
       subst (λ c. Contains (secrets_in (item_called c) message) shown) (sym call) alone,
     )
 
+-- in a sound state an item that an unlocked collection shows has a secret, which is shown
+pub shown_if_open : (state : State) (came : Recorded) (stem : List ℕ) (item : ItemId) (session : SessionId) → IsSound state
+    → came.arrival.request.call ≡ Ok (call.GetSecret stem item (Some session))
+    → came.arrival.request.wants_reply ≡ true
+    → owns came.arrival.conn session state.sessions ≡ true
+    → is_open stem state.collections ≡ true
+    → has_item stem item.0 state.collections ≡ true
+    → (secret : ReturnedSecret) × (secret_of session state.collections stem item ≡ Some secret)
+    × (length (spelled_body (body.Secret secret)) ≤ most_body
+    → Shows state (event.Arrive came) (record { to = One came.arrival.conn; out = out.Return came.arrival.request.serial (body.Secret secret) }) (record { item = path_text (object.Item stem item); secret = secret }))
+shown_if_open state came stem item session sound call wanted own unlocked there =
+    let (secret, is) = secret-there session state.collections stem item sound.collections unlocked there in
+    (secret, is, λ small. shown_on_call state came stem item session secret call wanted own there is small)
+
 -- ---- GetSecrets by the owner of a session
 
 -- an object whose secret is read gives it
@@ -487,3 +506,28 @@ shown_on_calls state came objects stem item session secret call wanted own there
       Contains-append_left (replies caller came.arrival.request (served came state).answer) (served came state).sends sent (subst (λ l. Contains l sent) (sym answers) first),
       subst (λ c. Contains (secrets_in (item_called c) message) shown) (sym call) among,
     )
+
+-- an item that is listed is one that an unlocked collection shows
+open-listed : (state : State) (objects : List ObjectName) (stem : List ℕ) (item : ItemId) → Contains (items_shown state objects) (object.Item stem item)
+    → (is_open stem state.collections ≡ true) × (has_item stem item.0 state.collections ≡ true)
+open-listed state objects stem item listed =
+    let asks = asked_collections (contents_of state) in
+    let IsOpenItem : ObjectName → Type 0 = λ one. is_open_item asks one ≡ true in
+    let each = once-each IsOpenItem (is_open_item asks) (λ one is. is) objects in
+    let its : (has_item stem item.0 state.collections && is_open stem state.collections) ≡ true = All-contains IsOpenItem (items_shown state objects) (object.Item stem item) (All-from_recursion IsOpenItem (items_shown state objects) each) listed in
+    let both : (a b : Bool) → (a && b) ≡ true → (b ≡ true) × (a ≡ true) = elim [ true ↦ λ b is. (is, refl) | false ↦ λ b is. absurd (let no : false ≡ true = is in cc) ] in
+    both (has_item stem item.0 state.collections) (is_open stem state.collections) its
+
+pub shown_if_listed : (state : State) (came : Recorded) (objects : List ObjectName) (stem : List ℕ) (item : ItemId) (session : SessionId) → IsSound state
+    → came.arrival.request.call ≡ Ok (call.GetSecrets objects (Some session))
+    → came.arrival.request.wants_reply ≡ true
+    → owns came.arrival.conn session state.sessions ≡ true
+    → Contains (items_shown state objects) (object.Item stem item)
+    → length (spelled_body (body.Secrets (secrets_shown session state objects))) ≤ most_body
+    → (secret : ReturnedSecret) × (secret_of session state.collections stem item ≡ Some secret)
+    × Shows state (event.Arrive came) (record { to = One came.arrival.conn; out = out.Return came.arrival.request.serial (body.Secrets (secrets_shown session state objects)) })
+    (record { item = path_text (object.Item stem item); secret = secret })
+shown_if_listed state came objects stem item session sound call wanted own listed small =
+    let (unlocked, there) = open-listed state objects stem item listed in
+    let (secret, is) = secret-there session state.collections stem item sound.collections unlocked there in
+    (secret, is, shown_on_calls state came objects stem item session secret call wanted own listed is small)

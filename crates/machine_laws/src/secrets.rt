@@ -6,7 +6,7 @@ ghost use Rattle.kr_base.specs.declared.ids.SessionId.{SessionId};
 ghost use Rattle.kr_names.specs.declared.object_name.ObjectName.{ObjectName};
 ghost use Rattle.kr_names.specs.declared.object_name.ObjectName.TheVariants as object;
 ghost use Rattle.kr_names.specs.Path.{path_text};
-ghost use Rattle.service_events.specs.collection_table.specs.Rows.{has_item};
+ghost use Rattle.service_events.specs.collection_table.specs.Rows.{has_item, is_open};
 ghost use Rattle.service_events.specs.secret_calls.specs.declared.call.Call.TheVariants as call;
 ghost use Rattle.service_events.specs.secret_calls.specs.declared.out.Body.TheVariants as body;
 ghost use Rattle.service_events.specs.secret_calls.specs.declared.out.Out.TheVariants as Out;
@@ -15,6 +15,7 @@ ghost use Rattle.service_events.specs.secret_calls.specs.declared.secret.Returne
 ghost use Rattle.service_events.specs.secret_calls.specs.Outs.{spelled_body};
 ghost use Rattle.session_table.specs.Sessions.{owns};
 ghost use Rattle.service_events.specs.service_tables.specs.Limits.{most_body};
+ghost use Rattle.service_events.specs.service_tables.specs.Sound.{IsSound};
 ghost use Rattle.service_events.specs.service_tables.specs.TablesReading.{secret_of};
 ghost use Rattle.service_events.specs.service_tables.specs.State.{State};
 ghost use Rattle.service_events.specs.service_tables.specs.Storing.{Brought};
@@ -71,10 +72,27 @@ pub fn each_secret_of_a_history_goes_to_its_sessions_owner()
 {}
 
 /// By GetSecret, the owner of a session is shown the secret of an item that is there and whose collection
-/// is unlocked, if a reply is wanted and its values aren't too large.
-#[tactic(auto, using(crate::proofs::SecretLemmas::shown_on_call))]
+/// is unlocked, if a reply is wanted and its values aren't too large. In a sound state each such item has a
+/// secret; in any state it is shown if the item has one.
+#[tactic(auto, using(crate::proofs::SecretLemmas::shown_if_open, crate::proofs::SecretLemmas::shown_on_call))]
 pub fn an_unlocked_item_is_shown_to_a_sessions_owner()
-    ensures { (state : State) (came : Recorded) (stem : List ℕ) (item : ItemId)
+    ensures sound { (state : State) (came : Recorded) (stem : List ℕ) (item : ItemId)
+        (session : SessionId) → IsSound state
+        → came.arrival.request.call ≡ Ok (call.GetSecret stem item (Some session))
+        → came.arrival.request.wants_reply ≡ true
+        → IsTrue (owns came.arrival.conn session state.sessions)
+        → IsTrue (is_open stem state.collections)
+        → IsTrue (has_item stem item.0 state.collections)
+        → (secret : ReturnedSecret)
+        × (secret_of session state.collections stem item ≡ Some secret)
+        × (length (spelled_body (body.Secret secret)) ≤ most_body
+        → Shows state (Event.Arrive came)
+        (record {
+          to = One came.arrival.conn;
+          out = Out.Return came.arrival.request.serial (body.Secret secret);
+        })
+        (record { item = path_text (object.Item stem item); secret = secret })) }
+    ensures any_state { (state : State) (came : Recorded) (stem : List ℕ) (item : ItemId)
         (session : SessionId) (secret : ReturnedSecret)
         → came.arrival.request.call ≡ Ok (call.GetSecret stem item (Some session))
         → came.arrival.request.wants_reply ≡ true
@@ -91,11 +109,28 @@ pub fn an_unlocked_item_is_shown_to_a_sessions_owner()
 {}
 
 /// By GetSecrets, the owner of a session is shown the secret of each of the items that are there and whose
-/// collections are unlocked, if a reply is wanted and its values aren't too large.
-#[tactic(auto, using(crate::proofs::SecretLemmas::shown_on_calls))]
+/// collections are unlocked, if a reply is wanted and its values aren't too large. In a sound state each such
+/// item has a secret; in any state it is shown if the item has one.
+#[tactic(auto, using(crate::proofs::SecretLemmas::shown_if_listed, crate::proofs::SecretLemmas::shown_on_calls))]
 pub fn unlocked_items_are_shown_to_a_sessions_owner()
-    ensures { (state : State) (came : Recorded) (objects : List ObjectName) (stem : List ℕ)
-        (item : ItemId) (given : SessionId) (secret : ReturnedSecret)
+    ensures sound { (state : State) (came : Recorded) (objects : List ObjectName)
+        (stem : List ℕ) (item : ItemId) (given : SessionId) → IsSound state
+        → came.arrival.request.call ≡ Ok (call.GetSecrets objects (Some given))
+        → came.arrival.request.wants_reply ≡ true
+        → IsTrue (owns came.arrival.conn given state.sessions)
+        → Contains (items_shown state objects) (object.Item stem item)
+        → length (spelled_body (body.Secrets (secrets_shown given state objects))) ≤ most_body
+        → (secret : ReturnedSecret)
+        × (secret_of given state.collections stem item ≡ Some secret)
+        × Shows state (Event.Arrive came)
+        (record {
+          to = One came.arrival.conn;
+          out = Out.Return came.arrival.request.serial
+              (body.Secrets (secrets_shown given state objects));
+        })
+        (record { item = path_text (object.Item stem item); secret = secret }) }
+    ensures any_state { (state : State) (came : Recorded) (objects : List ObjectName)
+        (stem : List ℕ) (item : ItemId) (given : SessionId) (secret : ReturnedSecret)
         → came.arrival.request.call ≡ Ok (call.GetSecrets objects (Some given))
         → came.arrival.request.wants_reply ≡ true
         → IsTrue (owns came.arrival.conn given state.sessions)

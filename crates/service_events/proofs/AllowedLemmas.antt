@@ -1,11 +1,12 @@
 -- A plan that may be run leaves a sound state sound; what it sends can wait, and what it answers has its types.
-use Rattle.std.proofs.Common.{◌≡◌, ℕ, ◌+◌, ◌^◌, ◌<◌, ◌≤◌, Bool, true, false, not, nat_le, IfSome, List, Result, Ok, Err, [], ◌∷◌, length, Some, refl, ap, ◌∙◌, arith}
+use Rattle.std.proofs.Common.{◌≡◌, ℕ, ◌+◌, ◌^◌, ◌<◌, ◌≤◌, Bool, true, false, not, nat_le, IfSome, IsSome, List, Result, Ok, Err, [], ◌∷◌, length, Some, refl, ap, ◌∙◌, arith}
 use Rattle.std.specs.List.{AllByRecursion}
 use Rattle.std.proofs.lemmas.Bool.{leb-false}
 use Rattle.kr_base.specs.declared.ids.ConnId.{ConnId}
 use Rattle.kr_base.specs.declared.ids.PromptId.{PromptId}
 use Rattle.kr_base.specs.Stem.{IsStem}
 use Rattle.kr_names.specs.Path.{IsAliasName}
+use Rattle.keyring_file.specs.ClearText.{most_iterations}
 use Rattle.prompt_state.specs.Prompts as prompts
 use Rattle.prompt_state.specs.Prompts.{asked_again, begun, ended, is_made, last_round, next_round, registered, round_of, row_at, unregistered, cleared, staged, wronged}
 use Rattle.prompt_state.specs.declared.row.PromptRow.{PromptRow}
@@ -27,7 +28,7 @@ use Rattle.service_events.specs.Plan.{Change, Open_session, Close_session, Lock_
 use Rattle.service_events.specs.PromptCalls.{gone_on}
 use Rattle.service_events.specs.Run.{key_with, made_of, asked, by_read, by_reading, by_test, demanded, failing, performed, performed_all, promised, sending, sent_all, sent_asked, sent_by, sent_opened, sent_settled, settled, filled, is_in_doubt, Ran, run, unlocked_with}
 use Rattle.service_events.specs.Step.{AreByteFiles}
-use Rattle.service_prompts.specs.service_tables.specs.Storing.{AreEditTypes, Brought, change_of, row_changed}
+use Rattle.service_prompts.specs.service_tables.specs.Storing.{AreEditTypes, Brought, change_of, row_changed, storable_edit}
 use Rattle.service_prompts.specs.service_tables.specs.declared.fate.Fate.{Fate}
 use Rattle.service_prompts.specs.service_tables.specs.declared.fate.ReadFate.{ReadFate}
 use Rattle.service_prompts.specs.service_tables.specs.declared.fate.StoreFate.{StoreFate}
@@ -46,8 +47,9 @@ use Rattle.service_events.specs.Announced.{demand_signals, reading_signals, reke
 use Rattle.service_events.proofs.AnnouncedLemmas.{closing-signals-typed, erase-signals-typed, reading-typed, store-signals-typed, unlock-typed}
 use Rattle.service_events.proofs.SmallLemmas.{not-full}
 use Rattle.service_events.proofs.GoneOnLemmas.{go_on-can, prompts-gone_on}
+use Rattle.service_disk.specs.Making.{has_room}
 use Rattle.service_disk.specs.Opening.{row_opened}
-use Rattle.service_disk.specs.Rekeying.{row_rekeyed}
+use Rattle.service_disk.specs.Rekeying.{can_rekey, row_rekeyed}
 use Rattle.service_prompts.specs.service_tables.proofs.TypedLemmas.{text-known}
 use Rattle.service_events.proofs.MadeLemmas.{sound-made, sound-reread}
 use Rattle.service_events.proofs.OpenedLemmas.{sound-opened}
@@ -96,28 +98,41 @@ IsTypedDemand brought (Set_alias alias stem) = IsAliasName alias × IfSome stem 
 IsTypedDemand brought (Make stem label terms) = (brought.now < 2 ^ 64) × IsTypedText label × IsStem stem
 IsTypedDemand brought (Rekey stem terms) = brought.now < 2 ^ 64
 
+-- the salt and the iterations of a key can be written to a file
+pub record AreWritable (terms : KeyTerms) : Type 0 where
+  pub salt : length terms.salt ≡ 8
+  pub iterations : terms.iterations ≤ most_iterations
+
+-- what a plan asks the disk to store can be a file: it isn't too long, and the terms of its key can be written
+abbrev pub IsStorable : Brought → Demand → State → Type 0
+IsStorable brought (Store stem edit) state = IsSome (storable_edit brought state.collections stem edit)
+IsStorable brought (Erase stem) state = Unit {0}
+IsStorable brought (Set_alias alias stem) state = Unit {0}
+IsStorable brought (Make stem label terms) state = AreWritable terms × (has_room (made_of brought terms label) state.collections ≡ true)
+IsStorable brought (Rekey stem terms) state = AreWritable terms × (can_rekey (key_with brought terms) brought.now stem state.collections ≡ true)
+
 -- Each change of a plan is allowed, and what it asks of the disk, the files that it may open and the values of its answer are of their types, however
--- what it asks of the disk ends.
+-- what it asks of the disk ends. What it asks to store can be stored.
 abbrev pub MayRun : ConnId → Brought → Plan → State → Type 0
 MayRun caller brought (Ends answer changes) state = AreAllowed caller changes state × IsTypedAnswer (filled caller state answer)
 MayRun caller brought (Asks demand next) state =
-    IsTypedDemand brought demand × ((ended : StoreFate) → MayRun caller brought (next ended) (demanded brought demand ended state))
+    IsTypedDemand brought demand × IsStorable brought demand state × ((ended : StoreFate) → MayRun caller brought (next ended) (demanded brought demand ended state))
 MayRun caller brought (Resolves reading unread next) state =
     ((ended : ReadFate) → MayRun caller brought unread (settled reading ended state) × MayRun caller brought (next (asked caller brought (settled reading ended state))) (settled reading ended state))
     × MayRun caller brought (next (asked caller brought state)) state
 MayRun caller brought (Opens stem terms next) state = AreByteFiles state.collections × MayRun caller brought next (unlocked_with brought stem terms state)
 
 -- what a demand leaves of a sound state
-sound-demanded : (brought : Brought) (demand : Demand) (some : StoreFate) (state : State) → IsTypedDemand brought demand → IsSound state → IsSound (demanded brought demand some state)
-sound-demanded brought (Store stem edit) some state typed sound = record {
+sound-demanded : (brought : Brought) (demand : Demand) (some : StoreFate) (state : State) → IsTypedDemand brought demand → IsStorable brought demand state → IsSound state → IsSound (demanded brought demand some state)
+sound-demanded brought (Store stem edit) some state typed can sound = record {
   connections = sound.connections;
   sessions = sound.sessions;
   prompts = sound.prompts;
-  collections = sound-stored brought.now typed.0 edit brought.value typed.1 stem some state.collections sound.collections;
+  collections = sound-stored brought.now typed.0 edit brought.value typed.1 stem some state.collections can sound.collections;
   aliases = sound.aliases;
   stems = stems-changed stem (row_changed (change_of brought.value edit) brought.now some) state.collections state.used sound.stems;
 }
-sound-demanded brought (Erase stem) some state typed sound = record {
+sound-demanded brought (Erase stem) some state typed can sound = record {
   connections = sound.connections;
   sessions = sound.sessions;
   prompts = sound.prompts;
@@ -125,7 +140,7 @@ sound-demanded brought (Erase stem) some state typed sound = record {
   aliases = sound.aliases;
   stems = stems-erased stem some state.collections state.used sound.stems;
 }
-sound-demanded brought (Set_alias alias stem) some state typed sound = record {
+sound-demanded brought (Set_alias alias stem) some state typed can sound = record {
   connections = sound.connections;
   sessions = sound.sessions;
   prompts = sound.prompts;
@@ -133,19 +148,19 @@ sound-demanded brought (Set_alias alias stem) some state typed sound = record {
   aliases = sound-set alias stem some (contents_of state) typed.0 typed.1 sound.aliases;
   stems = sound.stems;
 }
-sound-demanded brought (Make stem label terms) some state typed sound = record {
+sound-demanded brought (Make stem label terms) some state typed can sound = record {
   connections = sound.connections;
   sessions = sound.sessions;
   prompts = sound.prompts;
-  collections = sound-made stem (made_of brought terms label) typed.0 typed.2 (text-known label typed.1) some state.collections sound.collections;
+  collections = sound-made stem (made_of brought terms label) typed.0 typed.2 (text-known label typed.1) can.0.salt can.0.iterations state.collections can.1 some sound.collections;
   aliases = sound.aliases;
   stems = stems-made stem (made_of brought terms label) some state.collections state.used sound.stems;
 }
-sound-demanded brought (Rekey stem terms) some state typed sound = record {
+sound-demanded brought (Rekey stem terms) some state typed can sound = record {
   connections = sound.connections;
   sessions = sound.sessions;
   prompts = sound.prompts;
-  collections = sound-rekeyed (key_with brought terms) brought.now typed stem some state.collections sound.collections;
+  collections = sound-rekeyed (key_with brought terms) brought.now typed can.0.salt can.0.iterations stem some state.collections can.1 sound.collections;
   aliases = sound.aliases;
   stems = stems-changed stem (row_rekeyed (key_with brought terms) brought.now some) state.collections state.used sound.stems;
 }
@@ -325,7 +340,7 @@ well-run caller brought (Asks demand next) fates state there may sound =
     fits-either IsWell (promised caller state (next stored.Stored)) _ (failing name.LimitsExceeded state)
     (λ is. store-either IsWell (failing name.IOError state) _ fates (failing-well name.IOError state sound)
     (λ ended rest. sending-well (sent_asked brought demand ended state) (run caller brought (next ended) rest (demanded brought demand ended state)) (waits-asked brought demand ended state may.0 sound)
-    (well-run caller brought (next ended) rest (demanded brought demand ended state) there (may.1 ended) (sound-demanded brought demand ended state may.0 sound))))
+    (well-run caller brought (next ended) rest (demanded brought demand ended state) there (may.2 ended) (sound-demanded brought demand ended state may.0 may.1 sound))))
     (failing-well name.LimitsExceeded state sound)
 well-run caller brought (Resolves reading unread next) fates state there may sound =
     let after : ReadFate → State = λ ended. settled reading ended state in

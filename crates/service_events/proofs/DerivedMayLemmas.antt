@@ -1,7 +1,12 @@
 -- The plan of a derived key may be run in a sound state.
-use Rattle.std.proofs.Common.{◌≡◌, ℕ, ◌+◌, ◌^◌, ◌<◌, ◌≤◌, ◌⊎◌, Bool, true, false, cond, nat_le, List, [], ◌∷◌, ◌++◌, Option, Some, None, refl, sym, ap, subst, ◌∙◌, arith, inl, inr}
+use Rattle.std.proofs.Common.{◌≡◌, ℕ, ◌+◌, ◌^◌, ◌<◌, ◌≤◌, ◌⊎◌, ◌==◌, ◌&&◌, Bool, true, false, cond, nat_le, List, [], ◌∷◌, ◌++◌, length, Option, Some, None, refl, sym, ap, subst, ◌∙◌, arith, inl, inr}
+use Rattle.std.specs.Cmp.Lexicographic.{slice_cmp}
 use Rattle.std.specs.Option.{option_map}
+use Rattle.std.specs.Ordering.{nat_cmp}
 use Rattle.std.proofs.lemmas.Bool.{eqb-true}
+use Rattle.std.proofs.lemmas.Map.Lookups.{exact_bytes}
+use Rattle.kr_base.specs.Attributes.{is_name}
+use Rattle.kr_base.proofs.OrderedLemmas.{is_equal}
 use Rattle.kr_base.specs.declared.ids.ConnId.{ConnId}
 use Rattle.kr_base.specs.declared.ids.PromptId.{PromptId}
 use Rattle.kr_base.specs.Stem.{IsStem}
@@ -16,6 +21,7 @@ use Rattle.prompt_state.specs.declared.row.Prompts.{Prompts}
 use Rattle.prompt_state.specs.declared.row.Stage.{Stage}
 use Rattle.prompt_state.specs.declared.row.Stage.TheVariants.{Made, Asked, Deriving}
 use Rattle.prompt_state.specs.declared.targets.Target.{Target}
+use Rattle.service_disk.specs.Making.{has_room}
 use Rattle.service_disk.specs.Opening.{opening_of}
 use Rattle.service_disk.specs.declared.opening.Opening.{Opening}
 use Rattle.service_disk.specs.declared.opening.Opening.TheVariants as ends
@@ -27,12 +33,12 @@ use Rattle.service_prompts.specs.service_tables.specs.declared.fate.StoreFate.{S
 use Rattle.service_prompts.specs.service_tables.specs.declared.fate.StoreFate.TheVariants as stored
 use Rattle.service_prompts.specs.service_tables.proofs.AliasLemmas.{is-alias}
 use Rattle.service_events.specs.AliasCalls.{alias_settled}
-use Rattle.service_events.specs.Derivation.{alias_given, are_terms, can_make, changing_ended, collection_made, completing, derived, dismissing, kind_derived, left_derived, making_ended, most_wrong_answers, opening_ended, password_changed, quietly, row_derived, wrong_again}
+use Rattle.service_events.specs.Derivation.{alias_given, are_terms, can_make, changing_ended, collection_made, completing, derived, dismissing, kind_derived, left_derived, making_ended, most_wrong_answers, new_iterations, opening_ended, password_changed, quietly, row_derived, wrong_again}
 use Rattle.service_events.specs.Plan.{Change, KeyTerms, Plan, Ends, Asks, Resolves, Opens, Ask_prompt, Clear_wrong, Count_wrong, Go_on, Make, Rekey, followed}
-use Rattle.service_events.specs.Run.{asked, demanded, key_with, performed, settled, unlocked_with}
+use Rattle.service_events.specs.Run.{asked, demanded, key_with, made_of, performed, settled, unlocked_with}
 use Rattle.service_events.specs.Step.{AreByteFiles}
 use Rattle.service_events.proofs.AdvanceLemmas.{KeepsPrompt, row-changed}
-use Rattle.service_events.proofs.AllowedLemmas.{AreAllowed, HasMore, IsAllowed, MayRun, some-same}
+use Rattle.service_events.proofs.AllowedLemmas.{AreAllowed, AreWritable, HasMore, IsAllowed, IsStorable, MayRun, some-same}
 use Rattle.service_events.proofs.RowsMayLemmas.{settled-may}
 
 -- ---- changes after a plan
@@ -45,7 +51,7 @@ module _ (caller : ConnId) (brought : Brought) (more : List Change) (may_more : 
   -- a plan whose answer is dropped, and after which changes come that are always allowed
   pub followed-may : (plan : Plan) (state : State) → MayRun caller brought plan state → MayRun caller brought (followed more plan) state
   followed-may (Ends answer changes) state may = (append-allowed changes state may.0, tt)
-  followed-may (Asks demand next) state may = (may.0, λ ended. followed-may (next ended) (demanded brought demand ended state) (may.1 ended))
+  followed-may (Asks demand next) state may = (may.0, may.1, λ ended. followed-may (next ended) (demanded brought demand ended state) (may.2 ended))
   followed-may (Resolves reading unread next) state may = (
     λ ended. (
       followed-may unread (settled reading ended state) (may.0 ended).0,
@@ -130,17 +136,34 @@ module _ (caller : ConnId) (brought : Brought) (prompt : PromptId) (small : brou
   ended-may alias stem stored.Before state typed is = ((tt, tt), tt)
   ended-may alias stem stored.Unsure state typed is = ((tt, tt), tt)
 
-  asks-made : (label alias stem : List ℕ) (terms : KeyTerms) (state : State) → IsTypedText label → (alias ≡ []) ⊎ IsTypedAlias alias → IsStem stem
-      → MayRun caller brought (Asks (Make stem label terms) (making_ended prompt alias stem)) state
-  asks-made label alias stem terms state text typed is = ((small, text, is), λ ended. ended-may alias stem ended (demanded brought (Make stem label terms) ended state) typed is)
+  -- the terms of the work can be written to a file
+  both : (a b : Bool) → (a && b) ≡ true → (a ≡ true) × (b ≡ true)
+  both true b is = (refl, is)
+  both false b is = absurd (let no : false ≡ true = is in cc)
 
-  made-may : (label alias salt : List ℕ) (terms : KeyTerms) (state : State) → IsTypedText label → (alias ≡ []) ⊎ IsTypedAlias alias
+  terms-writable : (salt : List ℕ) (terms : KeyTerms) → length salt ≡ 8 → are_terms salt terms ≡ true → AreWritable terms
+  terms-writable salt terms eight are =
+      let its = both (is_name terms.salt salt) (terms.iterations == new_iterations) are in
+      let same : terms.salt ≡ salt = exact_bytes terms.salt salt (is_equal (slice_cmp nat_cmp terms.salt salt) its.0) in
+      let count : terms.iterations ≡ new_iterations = eqb-true terms.iterations new_iterations its.1 in
+      record { salt = ap (λ l. length l) same ∙ eight; iterations = omega (arith, count) }
+
+  asks-made : (label alias stem : List ℕ) (terms : KeyTerms) (state : State) → IsTypedText label → (alias ≡ []) ⊎ IsTypedAlias alias → IsStem stem
+      → IsStorable brought (Make stem label terms) state → MayRun caller brought (Asks (Make stem label terms) (making_ended prompt alias stem)) state
+  asks-made label alias stem terms state text typed is can = ((small, text, is), can, λ ended. ended-may alias stem ended (demanded brought (Make stem label terms) ended state) typed is)
+
+  made-may : (label alias salt : List ℕ) (terms : KeyTerms) (state : State) → IsTypedText label → (alias ≡ []) ⊎ IsTypedAlias alias → length salt ≡ 8
       → MayRun caller brought (collection_made prompt label alias salt terms (asked caller brought state)) state
-  made-may label alias salt terms state text typed =
+  made-may label alias salt terms state text typed eight =
       let stem = chosen label state.used in
-      let pass : (b : Bool) → MayRun caller brought (cond b (Asks (Make stem label terms) (making_ended prompt alias stem)) (dismissing prompt)) state =
-      elim [ true ↦ asks-made label alias stem terms state text typed (IsStem-chosen label state.used) | false ↦ ((tt, tt), tt) ] in
-      pass (can_make label salt terms (asked caller brought state))
+      let storable : can_make label salt terms (asked caller brought state) ≡ true → IsStorable brought (Make stem label terms) state =
+      λ can.
+      let first = both (are_terms salt terms) _ can in
+      (terms-writable salt terms eight first.0, (both _ (has_room (made_of brought terms label) state.collections) first.1).1) in
+      let pass : (b : Bool) → can_make label salt terms (asked caller brought state) ≡ b
+      → MayRun caller brought (cond b (Asks (Make stem label terms) (making_ended prompt alias stem)) (dismissing prompt)) state =
+      elim [ true ↦ λ can. asks-made label alias stem terms state text typed (IsStem-chosen label state.used) (storable can) | false ↦ λ off. ((tt, tt), tt) ] in
+      pass (can_make label salt terms (asked caller brought state)) refl
 
   -- ---- a password that is changed
 
@@ -149,20 +172,25 @@ module _ (caller : ConnId) (brought : Brought) (prompt : PromptId) (small : brou
   changed-may stem stored.Before state is = ((tt, tt), tt)
   changed-may stem stored.Unsure state is = ((tt, tt), tt)
 
-  change-may : (stem salt : List ℕ) (terms : KeyTerms) (state : State) → IsStem stem → MayRun caller brought (password_changed prompt stem salt terms (asked caller brought state)) state
-  change-may stem salt terms state is =
-      let asks : MayRun caller brought (Asks (Rekey stem terms) (changing_ended prompt stem)) state = (small, λ ended. changed-may stem ended (demanded brought (Rekey stem terms) ended state) is) in
-      let pass : (fit can : Bool) → MayRun caller brought (cond fit (cond can (Asks (Rekey stem terms) (changing_ended prompt stem)) (dismissing prompt)) (dismissing prompt)) state =
-      elim [ true ↦ elim [ true ↦ asks | false ↦ ((tt, tt), tt) ] | false ↦ λ can. ((tt, tt), tt) ] in
-      pass (are_terms salt terms) ((asked caller brought state).files.can_rekey terms stem)
+  change-may : (stem salt : List ℕ) (terms : KeyTerms) (state : State) → IsStem stem → length salt ≡ 8 → MayRun caller brought (password_changed prompt stem salt terms (asked caller brought state)) state
+  change-may stem salt terms state is eight =
+      let asks : IsStorable brought (Rekey stem terms) state → MayRun caller brought (Asks (Rekey stem terms) (changing_ended prompt stem)) state =
+      λ can. (small, can, λ ended. changed-may stem ended (demanded brought (Rekey stem terms) ended state) is) in
+      let pass : (fit can : Bool) → are_terms salt terms ≡ fit → (asked caller brought state).files.can_rekey terms stem ≡ can
+      → MayRun caller brought (cond fit (cond can (Asks (Rekey stem terms) (changing_ended prompt stem)) (dismissing prompt)) (dismissing prompt)) state =
+      elim [
+        | true ↦ elim [ true ↦ λ are can. asks (terms-writable salt terms eight are, can) | false ↦ λ are off. ((tt, tt), tt) ]
+        | false ↦ λ can off any. ((tt, tt), tt)
+      ] in
+      pass (are_terms salt terms) ((asked caller brought state).files.can_rekey terms stem) refl refl
 
   -- ---- any
 
   kind-may : (wrong : ℕ) (k : PromptKind) (terms : KeyTerms) (state : State) → AreByteFiles state.collections → IsSoundKind k → IsAllowed caller (Ask_prompt prompt) state
       → MayRun caller brought (kind_derived prompt wrong k terms (asked caller brought state)) state
   kind-may wrong (kind.Unlock targets) terms state files is ask = left-may wrong targets.left terms state files ask
-  kind-may wrong (kind.Create label alias salt) terms state files is ask = made-may label alias salt terms state is.label is.alias
-  kind-may wrong (kind.Change stem salt) terms state files is ask = change-may stem salt terms state is.stem
+  kind-may wrong (kind.Create label alias salt) terms state files is ask = made-may label alias salt terms state is.label is.alias is.salt
+  kind-may wrong (kind.Change stem salt) terms state files is ask = change-may stem salt terms state is.stem is.salt
 
   row-may : (round : ℕ) (row : PromptRow) (terms : KeyTerms) (state : State) → IsSound state → AreByteFiles state.collections → row_at prompt state.prompts ≡ Some row
       → is_deriving_in round row.stage ≡ true → MayRun caller brought (kind_derived prompt row.wrong row.kind terms (asked caller brought state)) state

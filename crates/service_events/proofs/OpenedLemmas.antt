@@ -1,5 +1,5 @@
 -- What a file opens to has its types, if the file consists of bytes. So the collections stay sound once one of them is unlocked.
-use Rattle.std.proofs.Common.{◌≡◌, ℕ, zero, suc, ◌<◌, ◌/◌, Bool, true, false, codes, cond, IfSome, List, [], ◌∷◌, ◌++◌, drop, length, take, Option, Some, None, Result, Ok, Err, refl, sym, ap, subst, ◌∙◌, arith, w32}
+use Rattle.std.proofs.Common.{◌≡◌, ℕ, zero, suc, ◌<◌, ◌/◌, Bool, true, false, codes, cond, IfSome, List, [], ◌∷◌, ◌++◌, drop, length, map, take, Option, Some, None, Result, Ok, Err, refl, sym, ap, subst, ◌∙◌, arith, w32}
 use Rattle.std.specs.Int.{to_be_bytes}
 use Rattle.std.specs.List.{AllByRecursion, slice_get, zip}
 use Rattle.std.specs.Option.{option_or}
@@ -34,21 +34,23 @@ use Rattle.keyring_file.specs.declared.clear.ClearItem.{ClearItem}
 use Rattle.keyring_file.specs.declared.fault.AreaFault.{AreaFault}
 use Rattle.keyring_file.specs.declared.fault.ClearFault.{ClearFault}
 use Rattle.keyring_file.proofs.AreaLaws.{area_found}
-use Rattle.keyring_file.proofs.FileLaws.{file_found}
+use Rattle.keyring_file.proofs.FileLaws.{file_again, file_found}
 use Rattle.service_prompts.specs.keyring_seal.specs.Arranged.{Row, arranged_rows, hashed_row, row_number, rows}
 use Rattle.service_prompts.specs.keyring_seal.specs.Order.{by_number}
 use Rattle.service_prompts.specs.keyring_seal.specs.Whole.{in_area_part, in_clear_part, opened}
 use Rattle.service_prompts.specs.keyring_seal.specs.declared.content.Content.{Content}
 use Rattle.service_prompts.specs.keyring_seal.specs.declared.opening.OpenFault.{OpenFault}
 use Rattle.service_prompts.specs.keyring_seal.proofs.ArrangeLemmas.{all_by_number}
+use Rattle.service_prompts.specs.collection_store.specs.State.{by_id, ids_of, shown_image}
 use Rattle.replace_slot.specs.Cell.{File, Known, Doubt}
 use Rattle.service_prompts.specs.collection_table.specs.Rows.{CollectionRow, Rows}
 use Rattle.service_prompts.specs.collection_table.proofs.EntryLemmas.{changed_in_order, found_there}
 use Rattle.service_disk.specs.Opening.{held_by, held_under, opening_in, row_by, row_opened, rows_opened}
 use Rattle.service_disk.specs.declared.opening.Opening.{Opening}
 use Rattle.service_disk.specs.declared.opening.Opening.TheVariants as ends
-use Rattle.service_prompts.specs.service_tables.specs.Sound.{AreSoundCollections, AreSoundItems, IsSoundCollection, IsSoundItem}
+use Rattle.service_prompts.specs.service_tables.specs.Sound.{AreSoundCollections, AreSoundItems, HoldsShown, IsSoundCollection, IsSoundItem, ShowsItems}
 use Rattle.service_prompts.specs.service_tables.proofs.EachLemmas.{each-mapped, each-weaker}
+use Rattle.service_prompts.specs.service_tables.proofs.HeldLemmas.{arranged-ids}
 use Rattle.service_events.specs.Step.{AreByteFiles, AreByteImages}
 
 -- ---- bytes
@@ -227,6 +229,7 @@ area-known area items fits is =
 record IsKnownContent (content : Content) : Type 0 where
   clear : AllByRecursion IsKnownClearItem content.clear.items
   items : AllByRecursion IsKnownItem content.items
+  counted : length content.items ≡ length content.clear.items
 
 abbrev with_area : ClearPart → Result (List FullItem) AreaFault → Result Content OpenFault
 with_area clear read = do
@@ -248,9 +251,11 @@ module _ (file key vector : List ℕ) (fits : IsBytes file) (first : IsBytes vec
       let text = file_found file area clear fits at in
       let hidden : IsBytes area = IsBytes-behind _ area (subst IsBytes (text.text.parts ∙ ap (λ back. text.text.front ++ back) (text.text.is_second.parts ∙ ap (λ back. text.text.is_second.front ++ back) text.text.is_second.is_second) ∙ sym (append-parts text.text.front text.text.is_second.front area)) fits) in
       let shown = decrypted-bytes key vector area first hidden in
+      let found = area_found (decrypted key vector area) (length clear.items) content.items shown both.1 in
       record {
         clear = subst (λ (c : ClearPart). AllByRecursion IsKnownClearItem c.items) (sym both.0) (clear-known file clear (area, text));
-        items = area-known (decrypted key vector area) content.items shown (area_found (decrypted key vector area) (length clear.items) content.items shown both.1).0;
+        items = area-known (decrypted key vector area) content.items shown found.0;
+        counted = found.1 ∙ ap (λ (c : ClearPart). length c.items) (sym both.0);
       }
     where
       append-parts : (a b c : List ℕ) → (a ++ b) ++ c ≡ a ++ (b ++ c)
@@ -274,6 +279,22 @@ arranged-sound content known =
     (each-weaker IsSoundItem (λ (row : Row). IsSoundItem (hashed_row row))
     (λ row is. record { clear = record { id = is.clear.id; kind = is.clear.kind; content = is.clear.content }; full = is.full }) (by_number row_number (rows content)) sorted)
 
+-- ---- what is shown of it
+
+-- a file that opens has the clear part of its content
+opened-clear : (file key vector : List ℕ) (part : ClearPart) (content : Content) → HasClear file part → opened file key vector ≡ Ok content → content.clear ≡ part
+unfolding opened
+opened-clear file key vector part content (area, is) e =
+    let read = file_again file area part is in
+    let after = rw read at e in
+    (area-part part (area_read (length part.items) (decrypted key vector area)) content after).0
+
+-- a file that opens holds the items that are shown
+opened-shown : (bytes key vector : List ℕ) (content : Content) (clear : ClearPart) → opened bytes key vector ≡ Ok content → length content.items ≡ length content.clear.items → ShowsItems (Some bytes) clear
+    → ids_of clear.items ≡ map row_number (arranged_rows content)
+opened-shown bytes key vector content clear opens counted (part, has, same) =
+    same ∙ ap (λ (c : ClearPart). ids_of (by_id c).items) (sym (opened-clear bytes key vector part content has opens)) ∙ arranged-ids content counted
+
 -- ---- a collection
 
 module _ (key : Inputs) where
@@ -288,12 +309,33 @@ module _ (key : Inputs) where
       pass (opened bytes (key_of key) (vector_of key)) refl
   held-sound (Doubt old new) fits = tt
 
+  held-shown : (file : File) (clear : ClearPart) → AreByteImages file → ShowsItems (shown_image file) clear → IfSome (held_under key file) (HoldsShown file clear)
+  held-shown (Known None) clear fits shows = tt
+  held-shown (Known (Some bytes)) clear fits shows =
+      let pass : (r : Result Content OpenFault) → opened bytes (key_of key) (vector_of key) ≡ r → IfSome (held_by key r) (HoldsShown (Known (Some bytes)) clear) =
+      elim [
+        | Ok content ↦ λ is.
+            let counted = (opened-known bytes (key_of key) (vector_of key) fits.0 (vector-bytes key) content is).counted in
+            record { known = tt; items = opened-shown bytes (key_of key) (vector_of key) content clear is counted shows }
+        | Err fault ↦ λ is. tt
+      ] in
+      pass (opened bytes (key_of key) (vector_of key)) refl
+  held-shown (Doubt old new) clear fits shows = tt
+
   row-sound : (how : Opening) (stem : List ℕ) (row : CollectionRow) → AreByteImages row.file → IsSoundCollection (stem, row) → IsSoundCollection (stem, row_by key how row)
   row-sound ends.Settled stem row fits sound = sound
   row-sound ends.Unfit stem row fits sound = sound
   row-sound ends.WrongPassword stem row fits sound = sound
   row-sound ends.Damaged stem row fits sound = sound
-  row-sound ends.Opened stem row fits sound = record { stem = sound.stem; shown = sound.shown; other = sound.other; held = held-sound row.file fits }
+  row-sound ends.Opened stem row fits sound = record {
+    stem = sound.stem;
+    shown = sound.shown;
+    other = sound.other;
+    held = held-sound row.file fits;
+    image = sound.image;
+    newer = sound.newer;
+    holds = held-shown row.file row.clear fits sound.image;
+  }
 
   each-opened : (stem : List ℕ) (these : Rows) → AreByteFiles these → AllByRecursion IsSoundCollection these → AllByRecursion IsSoundCollection (rows_opened key stem these)
   each-opened stem [] fits all = tt

@@ -1,5 +1,5 @@
 -- The plan of each row of the table of calls may be run in a sound state.
-use Rattle.std.proofs.Common.{◌≡◌, ℕ, ◌+◌, ◌^◌, ◌<◌, ◌⊎◌, ◌==◌, Bool, true, false, ◌&&◌, nat_le, cond, IfSome, List, Result, Ok, Err, [], ◌∷◌, length, filter, map, Option, Some, None, refl, ap, sym, subst, ◌∙◌, arith, inl, inr}
+use Rattle.std.proofs.Common.{◌≡◌, ℕ, ◌+◌, ◌^◌, ◌<◌, ◌⊎◌, ◌==◌, Bool, true, false, ◌&&◌, nat_le, cond, IfSome, IsSome, List, Result, Ok, Err, [], ◌∷◌, length, filter, map, Option, Some, None, refl, ap, sym, subst, ◌∙◌, arith, inl, inr}
 use Rattle.std.specs.List.{AllByRecursion, cons_option, filter_map, list_any}
 use Rattle.std.specs.Option.{option_and_then, option_map, option_map_or}
 use Rattle.std.proofs.lemmas.Bool.{eqb-true, or_cases, leb-false, leb-true}
@@ -80,7 +80,7 @@ use Rattle.prompt_state.specs.declared.table.PromptRefused.TheVariants as refuse
 use Rattle.service_prompts.proofs.SignalLemmas.{found-row, label-text}
 use Rattle.service_prompts.specs.service_tables.specs.Sound.{IsSoundPrompt}
 use Rattle.service_events.specs.AnswerCalls.{answer_prompt, deriving_key, going_on, kind_answered, left_answered, row_answered, target_answered}
-use Rattle.service_events.proofs.AllowedLemmas.{AreAllowed, HasMore, IsAllowed, IsTypedAnswer, IsTypedDemand, MayRun, ask-round, some-same}
+use Rattle.service_events.proofs.AllowedLemmas.{AreAllowed, HasMore, IsAllowed, IsStorable, IsTypedAnswer, IsTypedDemand, MayRun, ask-round, some-same}
 
 module _ (caller : ConnId) (brought : Brought) where
   -- ---- the table of calls
@@ -198,18 +198,19 @@ module _ (caller : ConnId) (brought : Brought) where
   by-fate-may body stored.Before state typed = (tt, tt)
   by-fate-may body stored.Unsure state typed = (tt, tt)
 
-  asks-may : (demand : Demand) (body : PublicBody) (state : State) → IsTypedDemand brought demand → AreTyped (body_with body) → MayRun caller brought (Asks demand (by_fate body)) state
-  asks-may demand body state given typed = (given, λ ended. by-fate-may body ended (demanded brought demand ended state) typed)
+  asks-may : (demand : Demand) (body : PublicBody) (state : State) → IsTypedDemand brought demand → IsStorable brought demand state → AreTyped (body_with body)
+      → MayRun caller brought (Asks demand (by_fate body)) state
+  asks-may demand body state given can typed = (given, can, λ ended. by-fate-may body ended (demanded brought demand ended state) typed)
 
   if-may : (b : Bool) (plan : Plan) (error : ErrorName) (state : State) → MayRun caller brought plan state → MayRun caller brought (cond b plan (refused error)) state
   if-may true plan error state may = may
   if-may false plan error state may = (tt, tt)
 
-  stored-may : (stem : List ℕ) (edit : Edit) (returned : Changed → PublicBody) (answer : Option Changed) (state : State) → IsTypedDemand brought (Store stem edit) → IfSome answer (λ made. AreTyped (body_with (returned made)))
-      → MayRun caller brought (storing stem edit returned answer) state
-  stored-may stem edit returned None state given typed = (tt, tt)
-  stored-may stem edit returned (Some answer) state given typed =
-      asks-may (Store stem edit) (returned answer) state given typed
+  stored-may : (stem : List ℕ) (edit : Edit) (returned : Changed → PublicBody) (answer : Option Changed) (state : State) → storable_edit brought state.collections stem edit ≡ answer → IsTypedDemand brought (Store stem edit)
+      → IfSome answer (λ made. AreTyped (body_with (returned made))) → MayRun caller brought (storing stem edit returned answer) state
+  stored-may stem edit returned None state is given typed = (tt, tt)
+  stored-may stem edit returned (Some answer) state is given typed =
+      asks-may (Store stem edit) (returned answer) state given (subst IsSome (sym is) tt) typed
 
   kept-may : (session : Option SessionId) (stem content : List ℕ) (edit : Edit) (returned : Changed → PublicBody) (state : State) → IsTypedDemand brought (Store stem edit)
       → IfSome (storable_edit brought state.collections stem edit) (λ made. AreTyped (body_with (returned made))) → MayRun caller brought (secret_stored session stem content edit returned (asked caller brought state)) state
@@ -217,7 +218,7 @@ module _ (caller : ConnId) (brought : Brought) where
       let answer = storable_edit brought state.collections stem edit in
       session-may session _ state
       (λ own is. if-may (is_open stem state.collections) (storing_secret content stem edit returned (asked caller brought state)) name.IsLocked state
-      (if-may (nat_le (length content) most_content) (storing stem edit returned answer) name.LimitsExceeded state (stored-may stem edit returned answer state given typed)))
+      (if-may (nat_le (length content) most_content) (storing stem edit returned answer) name.LimitsExceeded state (stored-may stem edit returned answer state refl given typed)))
 
   -- the path of an item that can be stored
   item-typed : (stem : List ℕ) (item : Option ItemId) → IfSome item (λ it. IsName (object.Item stem it)) → IsName (item_named stem item)
@@ -286,7 +287,7 @@ module _ (caller : ConnId) (brought : Brought) where
   editing-may stem edit state given =
       let answer = storable_edit brought state.collections stem edit in
       if-may (is_open stem state.collections) (storing stem edit (λ _. public.Empty) answer) name.IsLocked state
-      (stored-may stem edit (λ _. public.Empty) answer state given (each-typed answer _ (λ made. tt)))
+      (stored-may stem edit (λ _. public.Empty) answer state refl given (each-typed answer _ (λ made. tt)))
 
   named-may : (label : List ℕ) (state : State) (named : Option (List ℕ)) → (brought.now < 2 ^ 64) × IsTypedText label
       → MayRun caller brought (on_collection named (λ stem. editing stem (Set_name label) (asked caller brought state))) state
@@ -303,7 +304,7 @@ module _ (caller : ConnId) (brought : Brought) where
 
   erased-may : (state : State) (named : Option (List ℕ)) → MayRun caller brought (on_collection named (λ stem. if_open stem (asked caller brought state) (Asks (Erase stem) (by_fate no_prompt)))) state
   erased-may state None = (tt, tt)
-  erased-may state (Some stem) = if-may (is_open stem state.collections) (Asks (Erase stem) (by_fate no_prompt)) name.IsLocked state (asks-may (Erase stem) no_prompt state tt prompt-typed)
+  erased-may state (Some stem) = if-may (is_open stem state.collections) (Asks (Erase stem) (by_fate no_prompt)) name.IsLocked state (asks-may (Erase stem) no_prompt state tt tt prompt-typed)
 
   -- the return for an alias
   alias-typed : (alias : List ℕ) (state : State) → IsSound state → AreTyped (body_with (alias_body (alias_of alias (contents_of state))))
@@ -319,7 +320,7 @@ module _ (caller : ConnId) (brought : Brought) where
   set-may : (alias : List ℕ) (stem : Option (List ℕ)) (state : State) → IsAliasName alias × IfSome stem IsStem → MayRun caller brought (alias_stored alias stem (asked caller brought state)) state
   set-may alias stem state typed =
       let pass : (b : Bool) → MayRun caller brought (cond b (Asks (Set_alias alias stem) (by_fate public.Empty)) (refused name.LimitsExceeded)) state =
-      elim [ true ↦ asks-may (Set_alias alias stem) public.Empty state typed tt | false ↦ (tt, tt) ] in
+      elim [ true ↦ asks-may (Set_alias alias stem) public.Empty state typed tt tt | false ↦ (tt, tt) ] in
       pass ((asked caller brought state).aliases.can_set alias stem)
 
   pub settled-may : (alias : List ℕ) (stem : Option (List ℕ)) (state : State) → IsAliasName alias × IfSome stem IsStem → MayRun caller brought (alias_settled alias stem) state
@@ -512,7 +513,7 @@ module _ (caller : ConnId) (brought : Brought) where
       let given = storable_edit brought state.collections stem edit in
       if-may (has_item stem item.0 state.collections) (if_open stem (asked caller brought state) (storing stem edit (λ _. no_prompt) given)) name.NoSuchObject state
       (if-may (is_open stem state.collections) (storing stem edit (λ _. no_prompt) given) name.IsLocked state
-      (stored-may stem edit (λ _. no_prompt) given state (small, tt) (each-typed given _ (λ made. prompt-typed))))
+      (stored-may stem edit (λ _. no_prompt) given state refl (small, tt) (each-typed given _ (λ made. prompt-typed))))
   may-run salt state (Ok (call.SetSecret stem item secret)) sound small random types same =
       let edit = Set_secret item secret.content in
       if-may (has_item stem item.0 state.collections) (secret_stored secret.session stem secret.content edit (λ _. public.Empty) (asked caller brought state)) name.NoSuchObject state

@@ -2,12 +2,15 @@
 use Rattle.std.proofs.Common.{◌≡◌, ℕ, ◌^◌, ◌<◌, ◌&&◌, nat_eq, Bool, true, false, cond, IsTrue, IfSome, List, [], ◌∷◌, ◌++◌, filter, Option, Some, None, refl, sym, ap, subst, ◌∙◌, inl, inr}
 use Rattle.std.specs.Cmp.Lexicographic.{slice_cmp}
 use Rattle.std.specs.List.{AllByRecursion, cons_option, filter_map, fold, list_any}
+use Rattle.std.specs.List.Sorted.{IsStrictlySortedBy}
+use Rattle.std.specs.Map.{keys_of}
 use Rattle.std.specs.Option.{is_some, option_map, option_and_then, option_map_or}
-use Rattle.std.specs.Ordering.{nat_cmp}
+use Rattle.std.specs.Ordering.{is_eq, nat_cmp}
+use Rattle.std.specs.declared.cmp.Ordering.TheVariants.{Less}
 use Rattle.std.proofs.lemmas.Bool.{eqb-true, or_cases}
 use Rattle.std.proofs.lemmas.Map.Lookups.{exact_bytes}
 use Rattle.std.proofs.lemmas.Option.{none-some}
-use Rattle.kr_base.specs.Attributes.{is_name, value_at}
+use Rattle.kr_base.specs.Attributes.{IsInOrder, is_name, value_at}
 use Rattle.kr_base.specs.Stem.{IsStem}
 use Rattle.kr_base.specs.Text.{IsText}
 use Rattle.kr_base.specs.declared.attributes.AttrValue.{AttrValue}
@@ -29,7 +32,7 @@ use Rattle.collection_table.specs.declared.matches.Matches.{Matches}
 use Rattle.collection_table.specs.Entries.{changed}
 use Rattle.collection_table.specs.Rows as collections
 use Rattle.collection_table.specs.Rows.{CollectionRow, Rows, content_of, has, has_item, is_open, item_of, locked, shows_item}
-use Rattle.collection_table.proofs.EntryLemmas.{changed_in_order}
+use Rattle.collection_table.proofs.EntryLemmas.{changed_in_order, unchanged_none}
 use Rattle.dbus_types.specs.Paths.{is_object_path}
 use Rattle.signal_fanout.specs.secret_calls.specs.declared.secret.ItemSecret.{ItemSecret}
 use Rattle.signal_fanout.specs.secret_calls.specs.declared.secret.ReturnedSecret.{ReturnedSecret}
@@ -58,6 +61,28 @@ at-stem P stem value (e ∷ es) all is =
           let stems : e.0 ≡ stem = sym (exact_bytes stem e.0 (is_equal (slice_cmp nat_cmp stem e.0) here)) in
           subst P (λ i. (stems i, same i)) all.0
       | false ↦ λ here. at-stem P stem value es all.1 (rw here at is)
+    ] in
+    pass (is_name stem e.0) refl
+
+-- a stem below those of all collections finds none
+none-above : {V : Type 0} (stem : List ℕ) (entries : List (List ℕ × V)) → AllByRecursion (λ other. slice_cmp nat_cmp stem other ≡ Less) (keys_of entries) → value_at stem entries ≡ None
+none-above stem [] above = refl
+none-above stem (e ∷ es) above = let off : is_name stem e.0 ≡ false = ap is_eq above.0 in rw off (none-above stem es above.1)
+
+-- What is true of each collection is true of each after a change of the one that a stem finds, if it is true of that one.
+pub each-changed : {V : Type 0} (P : List ℕ × V → Type 0) (stem : List ℕ) (f : V → V) (entries : List (List ℕ × V)) → IsInOrder entries → AllByRecursion P entries
+    → ((value : V) → value_at stem entries ≡ Some value → P (stem, f value)) → AllByRecursion P (changed stem f entries)
+unfolding IsStrictlySortedBy
+each-changed P stem f [] ordered all new = tt
+each-changed P stem f (e ∷ es) (below, rest) all new =
+    let pass : (b : Bool) → is_name stem e.0 ≡ b → AllByRecursion P (changed stem f (e ∷ es)) =
+    elim [
+      | true ↦ λ here.
+          let same : stem ≡ e.0 = exact_bytes stem e.0 (is_equal (slice_cmp nat_cmp stem e.0) here) in
+          let none : value_at stem es ≡ None = none-above stem es (subst (λ (name : List ℕ). AllByRecursion (λ other. slice_cmp nat_cmp name other ≡ Less) (keys_of es)) (sym same) below) in
+          let first : P (e.0, f e.1) = subst (λ (name : List ℕ). P (name, f e.1)) same (new e.1 (rw here refl)) in
+          rw here (first, subst (AllByRecursion P) (unchanged_none stem f es none) all.1)
+      | false ↦ λ off. rw off (all.0, each-changed P stem f es rest all.1 (λ value is. new value (rw off is)))
     ] in
     pass (is_name stem e.0) refl
 
@@ -371,7 +396,7 @@ each-locked stem [] all = tt
 each-locked stem (row ∷ rows) all =
     let pass : (b : Bool) → is_name stem row.0 ≡ b → AllByRecursion IsSoundCollection (changed stem locked (row ∷ rows)) =
     elim [
-      | true ↦ λ is. rw is (record { stem = all.0.stem; shown = all.0.shown; other = all.0.other; held = tt }, each-locked stem rows all.1)
+      | true ↦ λ is. rw is (record { stem = all.0.stem; shown = all.0.shown; other = all.0.other; held = tt; image = all.0.image; newer = all.0.newer; holds = tt }, each-locked stem rows all.1)
       | false ↦ λ is. rw is (all.0, each-locked stem rows all.1)
     ] in
     pass (is_name stem row.0) refl

@@ -6,6 +6,7 @@ pub mod ConnectionLemmas
 pub mod DiskLemmas
 pub mod EachLemmas
 pub mod FitLemmas
+pub mod HeldLemmas
 pub mod KeepingLemmas
 pub mod KeptLemmas
 pub mod LoadedLemmas

@@ -1,6 +1,6 @@
 -- What a start lists has its types: a stem is that of a file's name, and the label and the items of a clear part are those that a file
--- spells.
-use Rattle.std.proofs.Common.{◌≡◌, ℕ, ◌^◌, ◌<◌, List, [], ◌∷◌, map, codes, refl, sym, ap, subst, arith}
+-- spells, whose items are shown.
+use Rattle.std.proofs.Common.{◌≡◌, ◌≤◌, ℕ, ◌^◌, ◌<◌, List, [], ◌∷◌, ◌++◌, length, map, codes, None, Some, refl, sym, ap, subst, ◌∙◌, arith}
 use Rattle.std.specs.Cmp.Lexicographic.{slice_cmp}
 use Rattle.std.specs.List.{AllByRecursion}
 use Rattle.std.specs.List.Sorted.{IsStrictlySortedBy}
@@ -12,8 +12,9 @@ use Rattle.kr_base.specs.Stem.{IsStem}
 use Rattle.kr_base.specs.Text.{IsText}
 use Rattle.kr_names.proofs.TextLemmas.{IsPlain, IsText-plain}
 use Rattle.keyring_text.specs.Forms.{SpellsAll}
-use Rattle.keyring_file.specs.Clear.{ClearPart, plain_content}
-use Rattle.keyring_file.specs.ClearText.{HasClear, SpellsClearItem, SpellsContent, left_out, told}
+use Rattle.keyring_file.specs.Clear.{ClearPart, IsOfVersion, plain_content}
+use Rattle.keyring_file.specs.Clear as clears
+use Rattle.keyring_file.specs.ClearText.{HasClear, SpellsClearItem, SpellsContent, left_out, magic, most_iterations, told}
 use Rattle.keyring_file.specs.Known.{IsKnownClearItem}
 use Rattle.keyring_file.specs.declared.clear.ClearItem.{ClearItem}
 use Rattle.keyring_seal.proofs.ArrangeLemmas.{all_by_number}
@@ -24,9 +25,12 @@ use Rattle.folder_store.specs.Loads.{StartsOfSome, opening_of}
 use Rattle.folder_store.specs.Opened.{RingRow, Opening, Takes, Opens, Starts, none, more, other, left_alone, listed}
 use Rattle.folder_store.specs.Ring as rings
 use Rattle.folder_store.specs.Ring.{RingState}
+use Rattle.replace_slot.specs.Cell.{File, Known, Doubt}
+use Rattle.collection_store.specs.State.{by_id, shown_image}
 use Rattle.collection_table.specs.Entries.{loaded_from, rows_of}
-use Rattle.service_tables.specs.Sound.{IsSoundCollection, AreSoundCollections}
+use Rattle.service_tables.specs.Sound.{AreShown, IsSoundCollection, AreSoundCollections, ShowsItems, ShowsNewerItems}
 use Rattle.service_tables.proofs.EachLemmas.{each-append}
+use Rattle.service_tables.proofs.HeldLemmas.{by-id-rises}
 
 -- ---- a clear part
 
@@ -62,14 +66,77 @@ times-known image clear (area, text) =
     let front = text.text.is_first.is_second.is_second.is_first in
     (front.is_second.is_first.fits, front.is_second.is_second.is_first.fits)
 
+-- in version 0.0 each content type is the plain one
+content-plain : (minor : ℕ) (content bytes : List ℕ) → SpellsContent minor content bytes → minor ≡ 0 → content ≡ plain_content
+content-plain minor content bytes (left_out first plain empty) zero = plain
+content-plain minor content bytes (told later text) zero = absurd (omega (arith, later, zero))
+
+items-plain : (minor : ℕ) (items : List ClearItem) (bytes : List ℕ) → minor ≡ 0 → SpellsAll (SpellsClearItem minor) items bytes → AllByRecursion clears.IsPlain items
+items-plain minor [] bytes zero is = tt
+items-plain minor (item ∷ items) bytes zero is =
+    (content-plain minor item.content is.is_first.is_second.is_second.back is.is_first.is_second.is_second.is_second zero, items-plain minor items is.back zero is.is_second)
+
+version-known : (image : List ℕ) (clear : ClearPart) → HasClear image clear → IsOfVersion clear.minor clear.items
+version-known image clear (area, text) =
+    let after = text.text.is_first.is_second in
+    let these = after.is_second.is_second.is_second.list in
+    record { known = after.is_first.known; plain = λ zero. items-plain clear.minor clear.items these.back zero these.is_second }
+
+numbers-known : (image : List ℕ) (clear : ClearPart) → HasClear image clear → (clear.flags < 2 ^ 32) × (clear.timeout < 2 ^ 32)
+numbers-known image clear (area, text) =
+    let front = text.text.is_first.is_second.is_second.is_first in
+    (front.is_second.is_second.is_second.is_first.fits, front.is_second.is_second.is_second.is_second.is_first.fits)
+
+salt-known : (image : List ℕ) (clear : ClearPart) → HasClear image clear → length clear.salt ≡ 8
+salt-known image clear (area, text) = text.text.is_first.is_second.is_second.is_second.is_first.is_first.len
+
+iterations-known : (image : List ℕ) (clear : ClearPart) → HasClear image clear → clear.iterations ≤ most_iterations
+iterations-known image clear (area, text) = text.text.is_first.is_second.is_second.is_first.is_second.is_second.is_second.is_second.is_second.few
+
+version-ordered : (clear : ClearPart) → IsOfVersion clear.minor clear.items → IsOfVersion clear.minor (by_id clear).items
+version-ordered clear is = record { known = is.known; plain = λ zero. all_by_number (λ (item : ClearItem). item.id.0) clears.IsPlain clear.items (is.plain zero) }
+
+-- what is shown of a file, in order of the ids
+shown-known : (image : List ℕ) (clear : ClearPart) → HasClear image clear → AreShown (by_id clear)
+shown-known image clear has =
+    let times = times-known image clear has in
+    let numbers = numbers-known image clear has in
+    record {
+      label = label-known image clear has;
+      created = times.0;
+      modified = times.1;
+      flags = numbers.0;
+      timeout = numbers.1;
+      iterations = iterations-known image clear has;
+      salt = salt-known image clear has;
+      version = version-ordered clear (version-known image clear has);
+      items = all_by_number (λ (item : ClearItem). item.id.0) IsKnownClearItem clear.items (clear-known image clear has);
+      ordered = by-id-rises clear;
+    }
+
+-- no file is empty
+none-empty : (clear : ClearPart) → HasClear [] clear → ⊥
+none-empty clear (area, text) =
+    let parts : [] ≡ magic ++ text.text.is_first.back ++ text.text.back =
+    text.text.parts ∙ ap (λ front. front ++ text.text.back) (text.text.is_first.parts ∙ ap (λ front. front ++ text.text.is_first.back) text.text.is_first.is_first) in
+    let long : 0 ≡ length (magic ++ text.text.is_first.back ++ text.text.back) = ap (λ l. length l) parts in
+    omega (arith, long)
+
 -- ---- what is listed
 
--- the stem of a collection is one, and its label, its times and its items are those of a file
+-- the stem of a collection is one, and its clear part is that of a file
 record IsSoundRing (ring : RingRow) : Type 0 where
   stem : IsStem ring.stem
-  label : IsText ring.clear.name
-  times : (ring.clear.created < 2 ^ 64) × (ring.clear.modified < 2 ^ 64)
-  items : AllByRecursion IsKnownClearItem ring.clear.items
+  has : HasClear ring.image ring.clear
+
+file-shows : (file : File) (clear : ClearPart) → HasClear (rings.bytes_of file) clear → ShowsItems (shown_image file) (by_id clear)
+file-shows (Known None) clear has = tt
+file-shows (Known (Some bytes)) clear has = (clear, has, refl)
+file-shows (Doubt old new) clear has = absurd (none-empty clear has)
+
+file-newer : (file : File) (clear : ClearPart) → HasClear (rings.bytes_of file) clear → ShowsNewerItems file None
+file-newer (Known image) clear has = refl
+file-newer (Doubt old new) clear has = absurd (none-empty clear has)
 
 taken-sound : (limits : Limits) (name image : List ℕ) (opening next : Opening) → Takes limits name image opening next → AllByRecursion IsSoundRing opening.rings
     → AllByRecursion IsSoundRing next.rings
@@ -77,7 +144,7 @@ taken-sound limits name image opening _ (other off) all = all
 taken-sound limits name image opening _ (left_alone stem named off) all = all
 taken-sound limits name image opening _ (listed stem clear named reads fits) all =
     each-append IsSoundRing opening.rings ((record { stem = stem; clear = clear; image = image }) ∷ []) all
-    (record { stem = named.is_stem; label = label-known image clear reads; times = times-known image clear reads; items = clear-known image clear reads }, tt)
+    (record { stem = named.is_stem; has = reads }, tt)
 
 opens-sound : (limits : Limits) (files : List (List ℕ × List ℕ)) (opening : Opening) → Opens limits files opening → AllByRecursion IsSoundRing opening.rings
 opens-sound limits _ _ none = tt
@@ -95,9 +162,12 @@ module _ {S : Type 0} where
   rows-sound (ring ∷ these) all = (
     record {
       stem = all.0.stem;
-      shown = record { label = all.0.label; created = all.0.times.0; modified = all.0.times.1; items = all_by_number (λ (item : ClearItem). item.id.0) IsKnownClearItem ring.clear.items all.0.items };
+      shown = shown-known (rings.bytes_of ring.cell.file) ring.clear all.0.has;
       other = tt;
       held = tt;
+      image = file-shows ring.cell.file ring.clear all.0.has;
+      newer = file-newer ring.cell.file ring.clear all.0.has;
+      holds = tt;
     },
     rows-sound these all.1,
   )

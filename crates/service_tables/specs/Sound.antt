@@ -1,9 +1,9 @@
 -- What every state has that a start leads to, and a state has to have from which lists of events may begin: a number
 -- in use was given, and is given to no other; a session's owner is there; the connections, the sessions of each and the bytes
--- that wait are within their limits, and each output that waits has a spelling; the collections' stems rise, and what is
--- known of a collection has its types; the aliases are those that their file gives; a prompt's owner is there, and so is the agent, and
+-- that wait are within their limits, and each output that waits has a spelling; the collections' stems rise, what is
+-- known of a collection has its types, and an unlocked one holds just the items that it shows; the aliases are those that their file gives; a prompt's owner is there, and so is the agent, and
 -- what a prompt has can be sent. Laws over lists from any start take it as their premise.
-use Rattle.std.specs.Prelude.{◌≡◌, ◌⊎◌, ℕ, ◌+◌, ◌^◌, ◌==◌, ◌<◌, ◌≤◌, IsTrue, IfSome, IsSome, false, true, List, [], Option, Some, None, ◌∷◌, length, filter}
+use Rattle.std.specs.Prelude.{◌≡◌, ◌⊎◌, ℕ, ◌+◌, ◌^◌, ◌==◌, ◌<◌, ◌≤◌, IsTrue, IfSome, IsSome, IsSomeAnd, false, true, List, [], Option, Some, None, ◌∷◌, length, filter, map}
 use Rattle.std.specs.List.{AllByRecursion}
 use Rattle.std.specs.Str.{is_utf8}
 use Rattle.kr_base.specs.Attributes.{IsInOrder}
@@ -15,13 +15,15 @@ use Rattle.kr_base.specs.declared.ids.ConnId.{ConnId}
 use Rattle.alias_table.specs.Table.{AliasRows, AreGiven}
 use Rattle.keyring_text.specs.Fields.{IsBytes}
 use Rattle.kr_names.specs.Naming.{is_alias}
-use Rattle.keyring_file.specs.Clear.{ClearPart}
+use Rattle.kr_outside.specs.RenameDisk.{Image}
+use Rattle.keyring_file.specs.Clear.{ClearPart, IsOfVersion}
+use Rattle.keyring_file.specs.ClearText.{HasClear, most_iterations}
 use Rattle.keyring_file.specs.Known.{IsKnownClearItem, IsKnownItem}
-use Rattle.keyring_seal.specs.Arranged.{Row}
-use Rattle.collection_store.specs.State.{Held}
+use Rattle.keyring_seal.specs.Arranged.{Row, row_number}
+use Rattle.collection_store.specs.State.{Held, IsById, by_id, ids_of, shown_image}
 use Rattle.collection_table.specs.Rows as collections
 use Rattle.dbus_types.specs.Paths.{is_object_path}
-use Rattle.replace_slot.specs.Cell.{IsKnown}
+use Rattle.replace_slot.specs.Cell.{File, Known, Doubt, HasFile, IsKnown}
 use Rattle.prompt_state.specs.Prompts.{AreSound, is_made}
 use Rattle.prompt_state.specs.Targets.{TargetLists, first_left}
 use Rattle.prompt_state.specs.declared.row.PromptKind.{PromptKind}
@@ -121,19 +123,46 @@ pub record IsSoundItem (row : Row) : Type 0 where
 abbrev pub AreSoundItems : Held → Type 0
 AreSoundItems held = AllByRecursion IsSoundItem held.rows
 
--- the label, the times and the items of a clear part have their types
+-- what a clear part has can be written to a file, and its items are in order of their ids
 pub record AreShown (clear : ClearPart) : Type 0 where
   pub label : IsText clear.name
   pub created : clear.created < 2 ^ 64
   pub modified : clear.modified < 2 ^ 64
+  pub flags : clear.flags < 2 ^ 32
+  pub timeout : clear.timeout < 2 ^ 32
+  pub iterations : clear.iterations ≤ most_iterations
+  pub salt : length clear.salt ≡ 8
+  pub version : IsOfVersion clear.minor clear.items
   pub items : AllByRecursion IsKnownClearItem clear.items
+  pub ordered : IsById clear
 
--- what is known of a collection has its types: its stem is one, and the label and the items are those of a file
+-- the image is a file that has the items of this clear part, by their ids; if there is no file, anything may be shown
+abbrev pub ShowsItems : Image → ClearPart → Type 0
+ShowsItems None clear = Unit {0}
+ShowsItems (Some bytes) clear = (part : ClearPart) × HasClear bytes part × (ids_of clear.items ≡ ids_of (by_id part).items)
+
+-- the same of the newer image and the other clear part, if the older one is shown and the newer one is a file; otherwise there is no other
+abbrev pub ShowsNewerItems : File → Option ClearPart → Type 0
+ShowsNewerItems (Known image) other = other ≡ None
+ShowsNewerItems (Doubt None new) other = other ≡ None
+ShowsNewerItems (Doubt (Some bytes) None) other = other ≡ None
+ShowsNewerItems (Doubt (Some bytes) (Some image)) other = IsSomeAnd other (ShowsItems (Some image))
+
+-- the file of an unlocked collection is known, and it holds just the items that it shows, by their ids
+pub record HoldsShown (file : File) (clear : ClearPart) (held : Held) : Type 0 where
+  pub known : HasFile file
+  pub items : ids_of clear.items ≡ map row_number held.rows
+
+-- What is known of a collection has its types: its stem is one, and the label and the items are those of a file. It shows the items of its
+-- file, and holds just these while it is unlocked.
 pub record IsSoundCollection (collection : List ℕ × collections.CollectionRow) : Type 0 where
   pub stem : IsStem collection.0
   pub shown : AreShown collection.1.clear
   pub other : IfSome collection.1.other AreShown
   pub held : IfSome collection.1.held AreSoundItems
+  pub image : ShowsItems (shown_image collection.1.file) collection.1.clear
+  pub newer : ShowsNewerItems collection.1.file collection.1.other
+  pub holds : IfSome collection.1.held (HoldsShown collection.1.file collection.1.clear)
 
 -- sound collections, whose stems rise
 pub record AreSoundCollections (rows : collections.Rows) : Type 0 where
