@@ -210,7 +210,7 @@ module _ (caller : ConnId) (brought : Brought) where
       → IfSome answer (λ made. AreTyped (body_with (returned made))) → MayRun caller brought (storing stem edit returned answer) state
   stored-may stem edit returned None state is given typed = (tt, tt)
   stored-may stem edit returned (Some answer) state is given typed =
-      asks-may (Store stem edit) (returned answer) state given (subst IsSome (sym is) tt) typed
+      asks-may (Store stem edit) (returned answer) state given (subst IsSome (sym is) refl) typed
 
   kept-may : (session : Option SessionId) (stem content : List ℕ) (edit : Edit) (returned : Changed → PublicBody) (state : State) → IsTypedDemand brought (Store stem edit)
       → IfSome (storable_edit brought state.collections stem edit) (λ made. AreTyped (body_with (returned made))) → MayRun caller brought (secret_stored session stem content edit returned (asked caller brought state)) state
