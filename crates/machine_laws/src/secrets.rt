@@ -111,7 +111,6 @@ pub fn an_unlocked_item_is_shown_to_a_sessions_owner()
 /// By GetSecrets, the owner of a session is shown the secret of each of the items that are there and whose
 /// collections are unlocked, if a reply is wanted and its values aren't too large. In a sound state each such
 /// item has a secret; in any state it is shown if the item has one.
-#[tactic(auto, using(crate::proofs::SecretLemmas::shown_if_listed, crate::proofs::SecretLemmas::shown_on_calls))]
 pub fn unlocked_items_are_shown_to_a_sessions_owner()
     ensures sound { (state : State) (came : Recorded) (objects : List ObjectName)
         (stem : List ℕ) (item : ItemId) (given : SessionId) → IsSound state
