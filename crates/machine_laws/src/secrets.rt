@@ -93,12 +93,12 @@ pub fn an_unlocked_item_is_shown_to_a_sessions_owner()
         })
         (record { item = path_text (object.Item stem item); secret = secret })) }
     ensures any_state { (state : State) (came : Recorded) (stem : List ℕ) (item : ItemId)
-        (session : SessionId) (secret : ReturnedSecret)
-        → came.arrival.request.call ≡ Ok (call.GetSecret stem item (Some session))
+        (given : SessionId) (secret : ReturnedSecret)
+        → came.arrival.request.call ≡ Ok (call.GetSecret stem item (Some given))
         → came.arrival.request.wants_reply ≡ true
-        → IsTrue (owns came.arrival.conn session state.sessions)
+        → IsTrue (owns came.arrival.conn given state.sessions)
         → IsTrue (has_item stem item.0 state.collections)
-        → secret_of session state.collections stem item ≡ Some secret
+        → secret_of given state.collections stem item ≡ Some secret
         → length (spelled_body (body.Secret secret)) ≤ most_body
         → Shows state (Event.Arrive came)
         (record {
