@@ -1,7 +1,7 @@
 -- A collection shows the items of its file, and holds just these while it is unlocked: the ids of the rows that are held rise, and a file that is
 -- sealed has them in its clear part.
 use Rattle.std.proofs.Common.{◌≡◌, ◌≤◌, ℕ, ◌+◌, ◌<◌, nat_eq, nat_lt, Bool, true, false, cond, IfSome, is_some, List, [], ◌∷◌, ◌++◌, filter, length, map, Option, Some, None, Result, Ok, Err, refl, sym, ap, subst, ◌∙◌, arith}
-use Rattle.std.specs.List.{AllByRecursion, IsDistinct, find, list_any, zip}
+use Rattle.std.specs.List.{AllByRecursion, IsDistinct, list_any, zip}
 use Rattle.std.specs.List.Sorted.{IsStrictlyIncreasing}
 use Rattle.std.specs.Option.{option_and_then, option_map, option_map_or}
 use Rattle.std.proofs.lemmas.Bool.Decides.{nat_tests}
@@ -36,7 +36,7 @@ use Rattle.collection_store.specs.declared.change.Change.{Change}
 use Rattle.collection_store.specs.declared.change.Change.TheVariants as change
 use Rattle.collection_store.specs.declared.change.Changed.{Changed}
 use Rattle.collection_store.specs.declared.change.Changed.TheVariants as changes
-use Rattle.collection_table.specs.Rows.{CollectionRow, Rows, content_of, has_item, is_open, is_unlocked, item_of, shows_item}
+use Rattle.collection_table.specs.Rows.{CollectionRow, Rows, content_of, has_item, is_open, shows_item}
 use Rattle.collection_table.proofs.RowLemmas.{content-any}
 use Rattle.signal_fanout.specs.secret_calls.specs.declared.secret.ReturnedSecret.{ReturnedSecret}
 use Rattle.service_tables.specs.Sound.{AreShown, AreSoundCollections, HoldsShown, IsSoundCollection, IsSoundItem, ShowsItems}

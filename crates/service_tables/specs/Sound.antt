@@ -1,8 +1,9 @@
 -- What every state has that a start leads to, and a state has to have from which lists of events may begin: a number
 -- in use was given, and is given to no other; a session's owner is there; the connections, the sessions of each and the bytes
--- that wait are within their limits, and each output that waits has a spelling; the collections' stems rise, what is
--- known of a collection has its types, and an unlocked one holds just the items that it shows; the aliases are those that their file gives; a prompt's owner is there, and so is the agent, and
--- what a prompt has can be sent. Laws over lists from any start take it as their premise.
+-- that wait are within their limits, and each output that waits has a spelling; the collections' stems rise, what is known of a
+-- collection has its types, and an unlocked one holds just the items that it shows; the aliases are those that their file gives;
+-- a prompt's owner is there, and so is the agent, and what a prompt has can be sent. Laws over lists from any start take it as
+-- their premise.
 use Rattle.std.specs.Prelude.{◌≡◌, ◌⊎◌, ℕ, ◌+◌, ◌^◌, ◌==◌, ◌<◌, ◌≤◌, IsTrue, IfSome, IsSome, IsSomeAnd, false, true, List, [], Option, Some, None, ◌∷◌, length, filter, map}
 use Rattle.std.specs.List.{AllByRecursion}
 use Rattle.std.specs.Str.{is_utf8}
